@@ -1,0 +1,5 @@
+# make test: the gate, which proves and tests everything.
+.PHONY: test
+
+test:
+	.ci/run

@@ -1,0 +1,1 @@
+// The little-endian form of flattened data, there and back.

@@ -1,0 +1,1 @@
+// The demands as theorems over the definitions. There is no code here.

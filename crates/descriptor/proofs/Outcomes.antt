@@ -1,0 +1,49 @@
+-- What holds of an outcome wherever something was read: a law for each way that outcomes are made. Rests on the definitions alone.
+use mathlib.Core.Path.{_≡_, refl, subst}
+use mathlib.Core.Bool.{Bool, true, false, cond}
+use Prim.Native.Nat.{ℕ}
+use Rattle.descriptor.specs.Outcome.{Outcome, refused, read, andThen, require}
+
+-- where something was read, P holds of the next byte and of what was read
+pub data Holds {A : Type 0} (P : ℕ → A → Type 0) : Outcome A → Type 0 where
+  nothing : {number place : ℕ} → Holds P (refused number place)
+  reading : {q : ℕ} {x : A} → P q x → Holds P (read q x)
+
+-- what was read is known, and P holds of it
+pub found : {A : Type 0} {P : ℕ → A → Type 0} {q : ℕ} {x : A} → P q x → Holds P (read q x)
+found h = reading h
+
+-- P holds of what was read
+pub holds-read : {A : Type 0} {P : ℕ → A → Type 0} {o : Outcome A} {q : ℕ} {x : A} → o ≡ read q x → Holds P o → P q x
+holds-read {A} {P} e h = here (subst (λ (y : Outcome A). Holds P y) e h)
+  where
+    here : {q : ℕ} {x : A} → Holds P (read q x) → P q x
+    here (reading h) = h
+
+-- what follows a test may rest on it
+pub holds-require : {A : Type 0} {P : ℕ → A → Type 0} (b : Bool) (number place : ℕ) {o : Outcome A} → (b ≡ true → Holds P o)
+    → Holds P (require b number place o)
+holds-require true number place h = h refl
+holds-require false number place h = nothing
+
+-- each of two cases may rest on the test
+pub holds-cond : {A : Type 0} {P : ℕ → A → Type 0} (b : Bool) {o u : Outcome A} → (b ≡ true → Holds P o) → (b ≡ false → Holds P u)
+    → Holds P (cond b o u)
+holds-cond true h g = h refl
+holds-cond false h g = g refl
+
+-- what follows a reading may rest on what holds of it
+pub holds-andThen : {A B : Type 0} {P : ℕ → A → Type 0} {Q : ℕ → B → Type 0} {o : Outcome A} {next : ℕ → A → Outcome B} → Holds P o
+    → ((q : ℕ) (x : A) → P q x → Holds Q (next q x)) → Holds Q (andThen o next)
+holds-andThen nothing g = nothing
+holds-andThen (reading h) g = g _ _ h
+
+-- what follows from P wherever P holds
+pub holds-weaken : {A : Type 0} {P Q : ℕ → A → Type 0} {o : Outcome A} → Holds P o → ((q : ℕ) (x : A) → P q x → Q q x) → Holds Q o
+holds-weaken nothing g = nothing
+holds-weaken (reading h) g = reading (g _ _ h)
+
+-- two things that hold, hold together
+pub holds-both : {A : Type 0} {P Q : ℕ → A → Type 0} {o : Outcome A} → Holds P o → Holds Q o → Holds (λ q x. P q x × Q q x) o
+holds-both nothing nothing = nothing
+holds-both (reading h) (reading g) = reading (h, g)

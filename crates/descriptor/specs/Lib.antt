@@ -1,0 +1,9 @@
+pub mod Limits
+pub mod Codes
+pub mod Tree
+pub mod Encoding
+pub mod Outcome
+pub mod Check
+pub mod Table
+pub mod Answers
+pub mod Output

@@ -1,0 +1,5 @@
+pub mod Width
+pub mod Order
+pub mod Token
+pub mod Walk
+pub mod Answers

@@ -1,0 +1,3 @@
+// Flattened data under a type.
+pub mod cursor;
+pub mod width;

@@ -1,0 +1,5 @@
+pub mod Reading
+pub mod Writing
+pub mod Inverse
+pub mod Complement
+pub mod Pattern

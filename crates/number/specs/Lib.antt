@@ -1,0 +1,4 @@
+pub mod Endian
+pub mod Signed
+pub mod Float
+pub mod Post
