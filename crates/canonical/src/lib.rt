@@ -1,4 +1,7 @@
 // Equality of descriptors, and their normal form.
+pub mod compare;
+pub mod normal;
+
 use descriptor::answer::Answer;
 
 // The answer of a comparison: "yes or no".

@@ -1,3 +1,13 @@
+pub mod CodeKinds
+pub mod FieldSteps
+pub mod Members
+pub mod Names
 pub mod Outcomes
-pub mod Sizes
 pub mod Rows
+pub mod Runs
+pub mod Sizes
+pub mod Standing
+pub mod Steps
+pub mod Filling
+pub mod Places
+pub mod Checked

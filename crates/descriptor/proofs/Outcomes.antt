@@ -47,3 +47,8 @@ holds-weaken (reading h) g = reading (g _ _ h)
 pub holds-both : {A : Type 0} {P Q : ℕ → A → Type 0} {o : Outcome A} → Holds P o → Holds Q o → Holds (λ q x. P q x × Q q x) o
 holds-both nothing nothing = nothing
 holds-both (reading h) (reading g) = reading (h, g)
+
+-- an outcome is what was read
+pub holds-self : {A : Type 0} (o : Outcome A) → Holds (λ q x. o ≡ read q x) o
+holds-self (refused number place) = nothing
+holds-self (read q x) = found refl

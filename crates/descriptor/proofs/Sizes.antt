@@ -1,6 +1,6 @@
 -- Where a reading ends, by what it read: every part ends its own size after its start, and within the descriptor that it stands in.
 -- Rests on the definitions of the check, and on the list reaching as far as the descriptor.
-use mathlib.Core.Path.{_≡_, refl, ap}
+use mathlib.Core.Path.{_≡_, refl, ap, _∙_}
 use mathlib.Core.Bool.{Bool, true, false, _&&_, _||_}
 use mathlib.Core.List.{List}
 use Prim.Native.Nat.{ℕ, zero, suc, _+_, _-_, _*_, _%_, _≤_, _<_}
@@ -26,6 +26,10 @@ pub record Ends (p stop size q : ℕ) : Type 0 where
 pub and-true : (a b : Bool) → (a && b) ≡ true → (a ≡ true) × (b ≡ true)
 and-true true b e = (refl, e)
 and-true false b e = absurd (let z : _≡_ {A = ℕ} 0 1 = cc in omega arith)
+
+-- a conjunction of tests that hold
+pub both-true : {a b : Bool} → a ≡ true → b ≡ true → (a && b) ≡ true
+both-true {b = b} e f = ap (λ (t : Bool). t && b) e ∙ f
 
 -- what a header that was read says of itself
 pub record HeaderFits (s : List ℕ) (levels : ℕ) (inArray : Bool) (end p n : ℕ) (h : Header) : Type 0 where

@@ -7,3 +7,7 @@ pub mod Check
 pub mod Table
 pub mod Answers
 pub mod Output
+pub mod Steps
+pub mod Promises
+pub mod Standing
+pub mod Filling

@@ -1,4 +1,8 @@
 // The types of the answers that document 01 gives.
+ghost use mathlib.Core.Path.{_≡_};
+ghost use Prim.Native.Nat.{_≤_};
+ghost use Rattle.descriptor.specs.Limits.{descriptorLimit};
+ghost use Rattle.descriptor.specs.Answers.{refusal};
 
 // Its number, the input at fault and a place.
 #[repr(C)]
@@ -6,6 +10,18 @@ pub struct Answer {
     pub number: u32,
     pub input: u32,
     pub place: u32,
+}
+
+// An answer, whose place lies in a descriptor.
+pub fn answered(number: u32, input: u32, place: usize) -> Answer
+    requires { ⌜ place ≤ descriptorLimit ⌝ }
+    ensures { λ r. ⌜ r ≡ refusal number input place ⌝ }
+{
+    Answer {
+        number,
+        input,
+        place: place as u32,
+    }
 }
 
 // A row of the descriptor table: "low code byte, start, size, depth, count .., name place .., name length".

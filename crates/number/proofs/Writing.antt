@@ -20,7 +20,7 @@ length-leBytes zero v = refl
 length-leBytes (suc n) v = ap suc (length-leBytes n (v / 256))
 
 -- two runs stored one after the other
-pub sets-append : (l : List ℕ) (at : ℕ) (xs ys : List ℕ) → sets l at (xs ++ ys) ≡ sets (sets l at xs) (at + length xs) ys
+pub sets-append : {A : Type 0} (l : List A) (at : ℕ) (xs ys : List A) → sets l at (xs ++ ys) ≡ sets (sets l at xs) (at + length xs) ys
 sets-append l at [] ys = ap (λ (k : ℕ). sets l k ys) (sym (add-zero at))
 sets-append l at (x ∷ xs) ys =
     let place : suc at + length xs ≡ at + suc (length xs) = omega arith in

@@ -1,0 +1,105 @@
+// Whether two descriptors are equal: "Only the reserved byte is ignored."
+use super::Compared;
+use descriptor::answer::answered;
+use descriptor::fields::fields;
+use descriptor::limits::DEPTH_LIMIT;
+use descriptor::validate::validate;
+use number::endian::be16;
+ghost use mathlib.Core.Path.{_≡_};
+ghost use Prim.Native.Nat.{_≤_};
+ghost use lib.ListN.{length};
+ghost use Rattle.descriptor.specs.Limits.{descriptorLimit};
+ghost use Rattle.canonical.specs.Equality.{notCompared, comparison};
+ghost use Rattle.canonical.specs.Walk.{Both, RowInside, Accepted, sameRun, sameWithin};
+
+// Whether a and b hold the same bytes from `from` up to `to`.
+fn same_run(a: &[u8], b: &[u8], from: usize, to: usize) -> bool
+    requires { ⌜ Both (now a) (now b) from to ⌝ }
+    ensures { λ r. ⌜ r ≡ sameRun (now (a .entry)) (now (b .entry)) from to ⌝ }
+{
+    let mut i = from;
+    while i < to {
+        if a[i] != b[i] {
+            return false;
+        }
+        i += 1;
+    }
+    true
+}
+
+// Whether a and b hold the same bytes from `start` up to `stop`, but for the reserved bytes of the k descriptors that stand in a from
+// `start` on and of those in them. What is left after the k is the name of the one that they stand in.
+fn same_within(a: &[u8], b: &[u8], k: usize, start: usize, stop: usize, left: usize) -> bool
+    requires { ⌜ RowInside (now a) k start stop left ⌝ }
+    requires { ⌜ length (now a) ≤ length (now b) ⌝ }
+    ensures { λ r. ⌜ r ≡ sameWithin (now (a .entry)) (now (b .entry)) k start stop ⌝ }
+{
+    let mut p = start;
+    let mut i = 0;
+    while i < k {
+        let size = be16(a, p);
+        let end = p + size;
+        if !same_run(a, b, p, p + 2) {
+            return false;
+        }
+        let f = fields(a, a[p + 3], p, end);
+        let next = f.next;
+        let children = f.children;
+        if !same_run(a, b, p + 3, next) {
+            return false;
+        }
+        if children == 0 {
+            if !same_run(a, b, next, end) {
+                return false;
+            }
+        } else {
+            if !same_within(a, b, children, next, end, left - 1) {
+                return false;
+            }
+        }
+        p = end;
+        i += 1;
+    }
+    same_run(a, b, p, stop)
+}
+
+// Whether the accepted descriptors a and b are equal: as long as each other, and the same but for the reserved bytes of a.
+fn same_accepted(a: &[u8], b: &[u8]) -> bool
+    requires { ⌜ Accepted (now a) ⌝ }
+    requires { ⌜ Accepted (now b) ⌝ }
+    ensures { λ r. ⌜ r ≡ comparison (now (a .entry)) (now (b .entry)) .equal ⌝ }
+{
+    if a.len() != b.len() {
+        return false;
+    }
+    same_within(a, b, 1, 0, a.len(), DEPTH_LIMIT)
+}
+
+// The answer for an input that is no descriptor.
+fn not_compared(number: u32, input: u32, place: usize) -> Compared
+    requires { ⌜ place ≤ descriptorLimit ⌝ }
+    ensures { λ r. ⌜ r ≡ notCompared number input place ⌝ }
+{
+    let answer = answered(number, input, place);
+    Compared {
+        answer,
+        equal: false,
+    }
+}
+
+// Whether two descriptors are equal. A refusal names the first of the two that is no descriptor, and says no.
+pub fn compare(first: &[u8], second: &[u8]) -> Compared
+    ensures { λ r. ⌜ r ≡ comparison (now (first .entry)) (now (second .entry)) ⌝ }
+{
+    let v = validate(first);
+    if !v.ok {
+        return not_compared(v.number, 1, v.place);
+    }
+    let w = validate(second);
+    if !w.ok {
+        return not_compared(w.number, 2, w.place);
+    }
+    let equal = same_accepted(first, second);
+    let answer = answered(0, 0, 0);
+    Compared { answer, equal }
+}

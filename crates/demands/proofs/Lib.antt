@@ -1,0 +1,5 @@
+pub mod Refusals
+pub mod Accepted
+pub mod Equal
+pub mod Rows
+pub mod Frame

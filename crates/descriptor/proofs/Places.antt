@@ -1,0 +1,146 @@
+-- The place of a refusal lies within the bytes: no further than they are long, where they are no longer than is carried.
+-- Rests on the definitions of the check and on where its readings end.
+use mathlib.Core.Path.{_≡_, refl, subst}
+use mathlib.Core.Bool.{Bool, true, false, cond, not, _&&_, _||_}
+use mathlib.Core.List.{List}
+use Prim.Native.Nat.{ℕ, zero, suc, _+_, _-_, _*_, _%_, _≤_}
+use native.Mathlib.Omega.{arith}
+use borrow.Author.Tests.{leb-true}
+use lib.Dec.{leb, ltb, eqb}
+use lib.ListN.{length, getD}
+use Rattle.number.specs.Endian.{be}
+use Rattle.descriptor.specs.Limits.{descriptorLimit, rowLimit, depthLimit, dimensionLimit, pairLimit, countLimit}
+use Rattle.descriptor.specs.Codes.{Kind, plain, enumeration, quantity, string, array, cluster, unknown, kindOf, isCarried, isArray, between}
+use Rattle.descriptor.specs.Tree.{Tree, childCount, treeSize, rowCount}
+use Rattle.descriptor.specs.Outcome.{Outcome, refused, read, andThen, require}
+use Rattle.descriptor.specs.Check.{sizeFits, headerAt, countAt, itemAt, itemsAt, fillAt, pairsAt, basesFit, wordsFit, fieldsAt, membersAt, nameAt, nodeAt, treeAt, checked}
+use Rattle.descriptor.proofs.Outcomes.{Holds, nothing, reading}
+use Rattle.descriptor.proofs.Sizes.{Ends, header-fits, fields-end, tree-ends}
+
+-- where the outcome is a refusal, its place is no further than `most`
+data Placed {A : Type 0} (most : ℕ) : Outcome A → Type 0 where
+  accepted : {q : ℕ} {x : A} → Placed most (read q x)
+  placed : {number place : ℕ} → place ≤ most → Placed most (refused number place)
+
+-- a test that refuses at such a place; what follows may rest on it
+placed-test : {A : Type 0} {most : ℕ} (b : Bool) (number place : ℕ) {o : Outcome A} → place ≤ most → (b ≡ true → Placed most o)
+    → Placed most (require b number place o)
+placed-test true number place h f = f refl
+placed-test false number place h f = placed h
+
+-- the same where it doesn't
+placed-require : {A : Type 0} {most : ℕ} (b : Bool) (number place : ℕ) {o : Outcome A} → place ≤ most → Placed most o
+    → Placed most (require b number place o)
+placed-require b number place h f = placed-test b number place h (λ _. f)
+
+-- either of two cases
+placed-cond : {A : Type 0} {most : ℕ} (b : Bool) {o u : Outcome A} → Placed most o → Placed most u → Placed most (cond b o u)
+placed-cond true f g = f
+placed-cond false f g = g
+
+-- a reading, and what follows it
+placed-then : {A B : Type 0} {most : ℕ} {P : ℕ → A → Type 0} {o : Outcome A} {next : ℕ → A → Outcome B} → Holds P o → Placed most o
+    → ((q : ℕ) (x : A) → P q x → Placed most (next q x)) → Placed most (andThen o next)
+placed-then nothing (placed h) g = placed h
+placed-then (reading p) accepted g = g _ _ p
+
+-- the same where nothing is asked of what was read
+placed-and : {A B : Type 0} {most : ℕ} {o : Outcome A} {next : ℕ → A → Outcome B} → Placed most o → ((q : ℕ) (x : A) → Placed most (next q x))
+    → Placed most (andThen o next)
+placed-and (placed h) g = placed h
+placed-and accepted g = g _ _
+
+-- the parts of the descriptor at p
+module _ (s : List ℕ) (p stop most : ℕ) (here : p ≤ most) where
+  count-placed : (n : ℕ) → Placed most (countAt s p stop n)
+  unfolding countAt
+  count-placed n = placed-require (leb (p + 6) stop) 8 p here (placed-require (between 1 n (be s (p + 4) 2)) 9 p here accepted)
+
+  items-placed : (k at : ℕ) → Placed most (itemsAt s p stop k at)
+  unfolding itemsAt itemAt
+  items-placed zero at = accepted
+  items-placed (suc k) at =
+      placed-and (placed-require (ltb at stop) 8 p here (placed-require (leb (at + 1 + getD s at 0) stop) 8 p here accepted))
+      (λ next x. placed-and (items-placed k next) (λ last xs. accepted))
+
+  fields-placed : (k : Kind) → Placed most (fieldsAt k s p stop)
+  unfolding fieldsAt fillAt
+  fields-placed plain = accepted
+  fields-placed enumeration =
+      placed-and (count-placed countLimit) (λ at k.
+      placed-and (items-placed k at) (λ next xs.
+      placed-cond (eqb ((next - p) % 2) 0) accepted
+      (placed-require (ltb next stop) 8 p here (placed-require (eqb (getD s next 0) 0) 10 p here accepted))))
+  fields-placed quantity =
+      placed-and (count-placed pairLimit) (λ at k.
+      placed-require (leb (at + 4 * k) stop) 8 p here (placed-require (basesFit (pairsAt s k at)) 10 p here accepted))
+  fields-placed string = placed-require (leb (p + 8) stop) 8 p here (placed-require (wordsFit s 1 (p + 4)) 10 p here accepted)
+  fields-placed array =
+      placed-and (count-placed dimensionLimit) (λ at k.
+      placed-require (leb (at + 4 * k) stop) 8 p here (placed-require (wordsFit s k at) 10 p here accepted))
+  fields-placed cluster = placed-and (count-placed countLimit) (λ at k. accepted)
+  fields-placed unknown = placed here
+
+  name-placed : (at : ℕ) → Placed most (nameAt s p stop at)
+  unfolding nameAt
+  name-placed at =
+      placed-cond (eqb at stop) accepted
+      (placed-require (eqb (at + 1 + getD s at 0 + (1 + getD s at 0) % 2) stop) 11 p here
+      (placed-require (eqb ((1 + getD s at 0) % 2) 0 || eqb (getD s (at + 1 + getD s at 0) 0) 0) 11 p here accepted))
+
+-- a header
+header-placed : (s : List ℕ) (levels : ℕ) (a : Bool) (end p n most : ℕ) → p ≤ most → Placed most (headerAt s levels a end p n)
+unfolding headerAt
+header-placed s levels a end p n most h =
+    let c : ℕ = getD s (p + 3) 0 in
+    placed-require (leb 4 (end - p)) 2 p h
+    (placed-require (ltb (be s p 2) 32768) 3 p h
+    (placed-require (sizeFits (be s p 2) (end - p)) 4 p h
+    (placed-require (isCarried (kindOf c)) 5 p h
+    (placed-require (ltb 0 levels) 6 p h
+    (placed-require (ltb n rowLimit) 7 p h (placed-require (not (a && isArray (kindOf c))) 10 p h accepted))))))
+
+-- descriptors in a row that end within `stop`
+members-placed : (stop : ℕ) (f : ℕ → ℕ → Outcome Tree) → ((p n : ℕ) → Holds (λ q t. Ends p stop (treeSize t) q) (f p n))
+    → ((p n : ℕ) → p ≤ stop → Placed stop (f p n)) → (k p n : ℕ) → p ≤ stop → Placed stop (membersAt f k p n)
+unfolding membersAt
+members-placed stop f ends at zero p n h = accepted
+members-placed stop f ends at (suc k) p n h =
+    placed-then (ends p n) (at p n h) (λ q t e. placed-and (members-placed stop f ends at k q (n + rowCount t) (e .within)) (λ r ts. accepted))
+
+-- no further than more
+placed-wider : {A : Type 0} {most more : ℕ} {o : Outcome A} → most ≤ more → Placed most o → Placed more o
+placed-wider h accepted = accepted
+placed-wider h (placed {place = place} p) = placed {place = place} (omega arith)
+
+-- a descriptor
+tree-placed : (s : List ℕ) (levels : ℕ) (a : Bool) (end p n : ℕ) → end ≤ length s → p ≤ end → Placed end (treeAt levels s a end p n)
+unfolding treeAt nodeAt
+tree-placed s zero a end p n inside h =
+    placed-then (header-fits s zero a end p n) (header-placed s zero a end p n end h) (λ _ x fits. absurd (omega (arith, fits .depth)))
+tree-placed s (suc d) a end p n inside h =
+    placed-then (header-fits s (suc d) a end p n) (header-placed s (suc d) a end p n end h) (λ _ x fits.
+    let stop : ℕ = p + x .size in
+    let inArray : Bool = isArray (kindOf (x .code)) in
+    let fit : stop ≤ length s = omega (arith, fits .within) in
+    placed-then (fields-end s p stop fit (kindOf (x .code)) (omega (arith, fits .least))) (fields-placed s p stop end h (kindOf (x .code))) (λ at b eb.
+    placed-and
+    (placed-wider (fits .within)
+    (members-placed stop (λ q m. treeAt d s inArray stop q m) (λ q m. tree-ends s d inArray stop q m fit)
+    (λ q m l. tree-placed s d inArray stop q m fit l) (childCount b) at (n + 1) (eb .within))) (λ next ts.
+    placed-and (name-placed s p stop end h next) (λ last m. accepted))))
+
+-- the whole check
+pub refused-place : (s : List ℕ) (number place : ℕ) → checked s ≡ refused number place → place ≤ descriptorLimit
+unfolding checked
+refused-place s number place e = at (subst (λ (o : Outcome Tree). Placed descriptorLimit o) e all)
+  where
+    at : Placed {A = Tree} descriptorLimit (refused number place) → place ≤ descriptorLimit
+    at (placed h) = h
+
+    all : Placed descriptorLimit (checked s)
+    all =
+        placed-test (leb (length s) descriptorLimit) 1 0 (omega arith) (λ short.
+        placed-then (tree-ends s depthLimit false (length s) 0 0 (omega arith))
+        (placed-wider (leb-true _ _ short) (tree-placed s depthLimit false (length s) 0 0 (omega arith) (omega arith))) (λ q t ends.
+        placed-require (eqb q (length s)) 12 q (omega (arith, ends .within, leb-true)) accepted))

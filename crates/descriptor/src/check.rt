@@ -1,0 +1,33 @@
+// The check of any bytes as a descriptor, with its table.
+use super::answer::Checked;
+use super::answer::answered;
+use super::limits::DEPTH_LIMIT;
+use super::table::Table;
+use super::table::tabulate_row;
+use super::table::zero_rows;
+use super::validate::validate;
+ghost use mathlib.Core.Path.{_≡_};
+ghost use Rattle.descriptor.specs.Answers.{descriptorCheck};
+
+// The first refusal and the zero table; or the row count and the rows, in order of first byte.
+pub fn check_descriptor(d: &[u8]) -> Checked
+    ensures { λ r. ⌜ r ≡ descriptorCheck (now (d .entry)) ⌝ }
+{
+    let v = validate(d);
+    if !v.ok {
+        let answer = answered(v.number, 1, v.place);
+        return Checked {
+            answer,
+            rows: zero_rows(),
+        };
+    }
+    let empty = Table {
+        rows: zero_rows(),
+        n: 0,
+        at: 0,
+    };
+    let t = tabulate_row(d, DEPTH_LIMIT, 1, empty);
+    let answer = answered(0, 0, v.count);
+    let rows = t.rows;
+    Checked { answer, rows }
+}

@@ -1,0 +1,6 @@
+pub mod Slices
+pub mod Lengths
+pub mod AllBytes
+pub mod Sound
+pub mod Complete
+pub mod Accepted

@@ -1,0 +1,317 @@
+-- What is read is spelled by the bytes that it was read from, and is well formed and within the limits.
+-- Rests on the sizes of what is read and on the laws of parts of a list.
+use mathlib.Core.Path.{_≡_, refl, sym, ap, ap₂, _∙_}
+use mathlib.Core.Bool.{Bool, true, false, _||_}
+use mathlib.Core.List.{List, [], _∷_, _++_}
+use Prim.Native.Nat.{ℕ, zero, suc, _+_, _-_, _*_, _%_, _≤_, _<_}
+use native.Mathlib.Omega.{arith}
+use borrow.Author.Tests.{leb-true, ltb-true, eqb-true, eqb-false}
+use lib.Dec.{leb, ltb, eqb}
+use lib.ListN.{length, getD, replicate, replicate-append-replicate}
+use lib.Seq.{slice, slice-empty, length-slice}
+use Rattle.number.specs.Endian.{be, beBytes}
+use Rattle.number.proofs.Reading.{be-bound}
+use Rattle.descriptor.specs.Limits.{rowLimit, dimensionLimit, pairLimit, countLimit}
+use Rattle.descriptor.specs.Codes.{Kind, plain, enumeration, quantity, string, array, cluster, unknown, kindOf, isArray}
+use Rattle.descriptor.specs.Tree.{Tree, Forest, childCount, itemsSize, fieldsSize, nameSize, treeSize, forestSize, forestLength, rowCount, forestRows, height, forestHeight}
+use Rattle.descriptor.specs.Encoding.{word, pascal, packed, pairBytes, fill, fieldBytes, nameBytes, encodeWith, forestWith, Bytes, Chars, AllChars, AllPairs, NameFits, Counted, FieldsFit, WellFormed, AllWellFormed}
+use Rattle.descriptor.specs.Outcome.{Outcome, read}
+use Rattle.descriptor.specs.Check.{Header, itemAt, itemsAt, fillAt, pairsAt, basesFit, wordsFit, fieldsAt, membersAt, nameAt, nodeAt, treeAt}
+use Rattle.descriptor.proofs.Outcomes.{Holds, nothing, found, holds-read, holds-require, holds-cond, holds-andThen, holds-both}
+use Rattle.descriptor.proofs.Sizes.{Ends, and-true, HeaderFits, header-fits, CountFits, count-fits, length-pairsAt, item-ends, items-end, fields-end, name-ends}
+use Rattle.encoding.proofs.Lengths.{fill-even, fill-odd}
+use Rattle.encoding.proofs.Slices.{slice-then, slice-more, be-slice, bytes-slice, bytes-at}
+
+-- the reserved byte of the descriptor at k
+abbrev pub reservedIn : List ℕ → ℕ → ℕ
+reservedIn s k = getD s (k + 2) 0
+
+-- the tree t, read from p to q where n rows went before: `levels` are left of the depth, and its parent ends at `end`
+pub record Sound (s : List ℕ) (levels : ℕ) (inArray : Bool) (end p n q : ℕ) (t : Tree) : Type 0 where
+  pub size : q ≡ p + treeSize t
+  pub within : q ≤ end
+  pub bytes : slice p q s ≡ encodeWith (reservedIn s) p t
+  pub formed : WellFormed inArray t
+  pub rows : n + rowCount t ≤ rowLimit
+  pub depth : height t ≤ levels
+
+-- the same of k descriptors in a row
+record AllSound (s : List ℕ) (levels : ℕ) (inArray : Bool) (end k p n q : ℕ) (f : Forest) : Type 0 where
+  size : q ≡ p + forestSize f
+  within : q ≤ end
+  bytes : slice p q s ≡ forestWith (reservedIn s) p f
+  count : forestLength f ≡ k
+  formed : AllWellFormed inArray f
+  rows : n + forestRows f ≤ rowLimit
+  depth : forestHeight f ≤ levels
+
+-- descriptors in a row, each read by f
+members-sound : (s : List ℕ) (levels : ℕ) (inArray : Bool) (end : ℕ) (f : ℕ → ℕ → Outcome Tree)
+    → ((p n : ℕ) → Holds (λ q t. Sound s levels inArray end p n q t) (f p n))
+    → (k p n : ℕ) → p ≤ end → n ≤ rowLimit → Holds (λ q ts. AllSound s levels inArray end k p n q ts) (membersAt f k p n)
+unfolding membersAt forestSize forestWith forestLength AllWellFormed forestRows forestHeight
+members-sound s levels a end f sound zero p n h r =
+    found (record {
+      size = omega arith;
+      within = h;
+      bytes = slice-empty p s;
+      count = refl;
+      formed = tt;
+      rows = omega arith;
+      depth = omega arith;
+    })
+members-sound s levels a end f sound (suc k) p n h r =
+    holds-andThen (sound p n) (λ q t e.
+    holds-andThen (members-sound s levels a end f sound k q (n + rowCount t) (e .within) (e .rows)) (λ last ts es.
+    found (record {
+      size = omega (arith, e .size, es .size);
+      within = es .within;
+      bytes =
+          slice-then p q last s (omega (arith, e .size)) (omega (arith, es .size)) (e .bytes)
+          (es .bytes ∙ ap (λ (j : ℕ). forestWith (reservedIn s) j ts) (e .size));
+      count = ap suc (es .count);
+      formed = (e .formed, es .formed);
+      rows = omega (arith, es .rows);
+      depth = omega (arith, e .depth, es .depth);
+    })))
+
+module _ (s : List ℕ) (b : Bytes s) where
+  -- the word at p
+  word-spelled : (p q : ℕ) → q ≡ p + 2 → q ≤ length s → slice p q s ≡ word (be s p 2)
+  word-spelled p q e h = ap (λ (k : ℕ). slice p k s) e ∙ be-slice s b p 2 (omega arith)
+
+  -- one byte
+  byte-spelled : (p x : ℕ) → p < length s → getD s p 0 ≡ x → slice p (p + 1) s ≡ x ∷ []
+  byte-spelled p x h e = slice-more p (p + 1) s 0 (omega arith) (omega arith) ∙ ap₂ (λ (y : ℕ) (l : List ℕ). y ∷ l) e (slice-empty (p + 1) s)
+
+  -- the Pascal string at p
+  module _ (p : ℕ) (h : p + 1 + getD s p 0 ≤ length s) where
+    -- its length
+    string-length : length (slice (p + 1) (p + 1 + getD s p 0) s) ≡ getD s p 0
+    string-length = omega (arith, length-slice (p + 1) (p + 1 + getD s p 0) s h)
+
+    -- its bytes
+    string-spelled : slice p (p + 1 + getD s p 0) s ≡ pascal (slice (p + 1) (p + 1 + getD s p 0) s)
+    string-spelled =
+        slice-more p (p + 1 + getD s p 0) s 0 (omega arith) h
+        ∙ ap (λ (k : ℕ). k ∷ slice (p + 1) (p + 1 + getD s p 0) s) (sym string-length)
+
+    -- its characters
+    string-chars : Chars (slice (p + 1) (p + 1 + getD s p 0) s)
+    string-chars = record { bytes = bytes-slice (p + 1) (p + 1 + getD s p 0) s b; most = omega (arith, string-length, bytes-at s b p) }
+
+  -- FFFFFFFF, k times
+  words-spelled : (k p : ℕ) → p + 4 * k ≤ length s → wordsFit s k p ≡ true → slice p (p + 4 * k) s ≡ replicate (4 * k) 255
+  unfolding wordsFit beBytes
+  words-spelled zero p h e = ap (λ (q : ℕ). slice p q s) (let z : p + 4 * 0 ≡ p = omega arith in z) ∙ slice-empty p s
+  words-spelled (suc k) p h e =
+      let both = and-true _ _ e in
+      let one : slice p (p + 4) s ≡ replicate 4 255 = be-slice s b p 4 (omega arith) ∙ ap (beBytes 4) (eqb-true _ _ (both .0)) in
+      let more : slice (p + 4) (p + 4 + 4 * k) s ≡ replicate (4 * k) 255 = words-spelled k (p + 4) (omega arith) (both .1) in
+      let last : p + 4 * suc k ≡ p + 4 + 4 * k = omega arith in
+      let size : 4 + 4 * k ≡ 4 * suc k = omega arith in
+      ap (λ (q : ℕ). slice p q s) last
+      ∙ slice-then p (p + 4) (p + 4 + 4 * k) s (omega arith) (omega arith) one more
+      ∙ replicate-append-replicate 4 (4 * k) 255
+      ∙ ap (λ (n : ℕ). replicate n 255) size
+
+  -- k unit pairs
+  pairs-spelled : (k p : ℕ) → p + 4 * k ≤ length s → slice p (p + 4 * k) s ≡ pairBytes (pairsAt s k p)
+  unfolding pairBytes pairsAt
+  pairs-spelled zero p h = ap (λ (q : ℕ). slice p q s) (let z : p + 4 * 0 ≡ p = omega arith in z) ∙ slice-empty p s
+  pairs-spelled (suc k) p h =
+      let last : p + 4 * suc k ≡ p + 4 + 4 * k = omega arith in
+      ap (λ (q : ℕ). slice p q s) last
+      ∙ slice-then p (p + 2) (p + 4 + 4 * k) s (omega arith) (omega arith) (word-spelled p (p + 2) refl (omega arith))
+      (slice-then (p + 2) (p + 4) (p + 4 + 4 * k) s (omega arith) (omega arith) (word-spelled (p + 2) (p + 4) (omega arith) (omega arith))
+      (pairs-spelled k (p + 4) (omega arith)))
+
+  -- and they are within their limits
+  pairs-fit : (k p : ℕ) → basesFit (pairsAt s k p) ≡ true → AllPairs (pairsAt s k p)
+  unfolding basesFit pairsAt AllPairs
+  pairs-fit zero p e = tt
+  pairs-fit (suc k) p e =
+      let both = and-true _ _ e in
+      ((leb-true _ _ (both .0), be-bound s (p + 2) (bytes-at s b) 2), pairs-fit k (p + 4) (both .1))
+
+  -- the parts of the descriptor at p that ends at `stop`
+  module _ (p stop : ℕ) (inside : stop ≤ length s) where
+    -- a Pascal string of an enumeration
+    item-sound : (at : ℕ) → Holds (λ q x. (slice at q s ≡ pascal x) × Chars x) (itemAt s p stop at)
+    unfolding itemAt
+    item-sound at =
+        holds-require (ltb at stop) _ _ (λ _.
+        holds-require (leb (at + 1 + getD s at 0) stop) _ _ (λ room.
+        let h : at + 1 + getD s at 0 ≤ length s = omega (arith, leb-true) in
+        found (string-spelled at h, string-chars at h)))
+
+    -- k of them
+    items-sound : (k at : ℕ) → at ≤ stop → Holds (λ q xs. (slice at q s ≡ packed xs) × AllChars xs) (itemsAt s p stop k at)
+    unfolding itemsAt packed AllChars
+    items-sound zero at h = found (slice-empty at s, tt)
+    items-sound (suc k) at h =
+        holds-andThen (holds-both (item-ends s p stop inside at) (item-sound at)) (λ next x i.
+        let within : next ≤ stop = i .0 .within in
+        holds-andThen (holds-both (items-end s p stop inside k next within) (items-sound k next within)) (λ last xs r.
+        found
+        (slice-then at next last s (omega (arith, i .0 .at)) (omega (arith, r .0 .0 .at)) (i .1 .0) (r .1 .0), (i .1 .1, r .1 .1))))
+
+    -- the items that end at `at`, and the zero byte after them
+    fill-sound : (at : ℕ) (xs : List (List ℕ)) → Ends (p + 6) stop (itemsSize xs) at → slice (p + 6) at s ≡ packed xs
+        → slice (p + 4) (p + 6) s ≡ word (length xs) → Counted (length xs) countLimit → AllChars xs
+        → Holds (λ q f. (slice (p + 4) q s ≡ fieldBytes f) × FieldsFit enumeration f) (fillAt s p stop at xs)
+    unfolding fillAt fieldBytes FieldsFit
+    fill-sound at xs i e w count chars =
+        holds-cond (eqb ((at - p) % 2) 0)
+        (λ even.
+        let n : itemsSize xs % 2 ≡ 0 = omega (arith, eqb-true) in
+        found (whole at (omega arith) (slice-empty at s ∙ sym (fill-even (itemsSize xs) n)), (refl, (count, chars))))
+        (λ odd.
+        holds-require (ltb at stop) _ _ (λ room.
+        holds-require (eqb (getD s at 0) 0) _ _ (λ z.
+        let n : itemsSize xs % 2 ≡ 1 = omega (arith, eqb-false) in
+        let zero-byte : slice at (at + 1) s ≡ 0 ∷ [] = byte-spelled at 0 (omega (arith, ltb-true)) (eqb-true _ _ z) in
+        found (whole (at + 1) (omega arith) (zero-byte ∙ sym (fill-odd (itemsSize xs) n)), (refl, (count, chars))))))
+      where
+        whole : (q : ℕ) → at ≤ q → slice at q s ≡ fill (itemsSize xs) → slice (p + 4) q s ≡ word (length xs) ++ (packed xs ++ fill (itemsSize xs))
+        whole q h f =
+            slice-then (p + 4) (p + 6) q s (omega arith) (omega (arith, i .at)) w (slice-then (p + 6) at q s (omega (arith, i .at)) h e f)
+
+    -- a count, which ends at `at`
+    count-spelled : (most at k : ℕ) → CountFits s p stop most at k → slice (p + 4) at s ≡ word k
+    count-spelled most at k c = word-spelled (p + 4) at (omega (arith, c .at)) (omega (arith, c .within)) ∙ ap word (sym (c .word))
+
+    -- the fields of a body
+    fields-sound : (k : Kind) → p + 4 ≤ stop → Holds (λ q f. (slice (p + 4) q s ≡ fieldBytes f) × FieldsFit k f) (fieldsAt k s p stop)
+    unfolding fieldsAt fieldBytes FieldsFit
+    fields-sound plain h = found (slice-empty (p + 4) s, refl)
+    fields-sound enumeration h =
+        holds-andThen (count-fits s p stop countLimit) (λ at k c.
+        holds-andThen (holds-both (items-end s p stop inside k at (c .within)) (items-sound k at (c .within))) (λ next xs i.
+        let many : k ≡ length xs = sym (i .0 .1) in
+        fill-sound next xs (record { at = omega arith; within = i .0 .0 .within })
+        (ap (λ (j : ℕ). slice j next s) (sym (c .at)) ∙ i .1 .0)
+        (ap (λ (j : ℕ). slice (p + 4) j s) (sym (c .at)) ∙ count-spelled countLimit at k c ∙ ap word many)
+        (record { least = omega arith; within = omega arith }) (i .1 .1)))
+    fields-sound quantity h =
+        holds-andThen (count-fits s p stop pairLimit) (λ at k c.
+        let many : k ≡ length (pairsAt s k at) = sym (length-pairsAt s k at) in
+        holds-require (leb (at + 4 * k) stop) _ _ (λ room.
+        holds-require (basesFit (pairsAt s k at)) _ _ (λ bases.
+        found (
+          slice-then (p + 4) at (at + 4 * k) s (omega (arith, c .at)) (omega arith) (count-spelled pairLimit at k c ∙ ap word many)
+              (pairs-spelled k at (omega (arith, leb-true))),
+          (refl, (record { least = omega arith; within = omega arith }, pairs-fit k at bases)),
+        ))))
+    fields-sound string h =
+        holds-require (leb (p + 8) stop) _ _ (λ room.
+        holds-require (wordsFit s 1 (p + 4)) _ _ (λ full.
+        let last : p + 8 ≡ p + 4 + 4 * 1 = omega arith in
+        found (ap (λ (q : ℕ). slice (p + 4) q s) last ∙ words-spelled 1 (p + 4) (omega (arith, leb-true)) full, refl)))
+    fields-sound array h =
+        holds-andThen (count-fits s p stop dimensionLimit) (λ at k c.
+        holds-require (leb (at + 4 * k) stop) _ _ (λ room.
+        holds-require (wordsFit s k at) _ _ (λ full.
+        found (
+          slice-then (p + 4) at (at + 4 * k) s (omega (arith, c .at)) (omega arith) (count-spelled dimensionLimit at k c)
+              (words-spelled k at (omega (arith, leb-true)) full),
+          (refl, record { least = c .least; within = c .limit }),
+        ))))
+    fields-sound cluster h =
+        holds-andThen (count-fits s p stop countLimit) (λ at k c.
+        found (count-spelled countLimit at k c, (refl, record { least = c .least; within = c .limit })))
+    fields-sound unknown h = nothing
+
+    -- a name
+    name-sound : (at : ℕ) → Holds (λ q m. (slice at q s ≡ nameBytes m) × NameFits m) (nameAt s p stop at)
+    unfolding nameAt nameBytes NameFits
+    name-sound at =
+        holds-cond (eqb at stop) (λ _. found (slice-empty at s, tt))
+        (λ _.
+        holds-require (eqb (at + 1 + getD s at 0 + (1 + getD s at 0) % 2) stop) _ _ (λ room.
+        let h : at + 1 + getD s at 0 ≤ length s = omega (arith, eqb-true) in
+        holds-require (eqb ((1 + getD s at 0) % 2) 0 || eqb (getD s (at + 1 + getD s at 0) 0) 0) _ _ (λ z.
+        found (
+          slice-then at (at + 1 + getD s at 0) stop s (omega arith) (omega (arith, eqb-true)) (string-spelled at h)
+              (padded h (eqb-true _ _ room) (eqb ((1 + getD s at 0) % 2) 0) refl z),
+          string-chars at h,
+        ))))
+      where
+        padded : (h : at + 1 + getD s at 0 ≤ length s) → at + 1 + getD s at 0 + (1 + getD s at 0) % 2 ≡ stop
+            → (even : Bool) → eqb ((1 + getD s at 0) % 2) 0 ≡ even → (even || eqb (getD s (at + 1 + getD s at 0) 0) 0) ≡ true
+            → slice (at + 1 + getD s at 0) stop s ≡ fill (suc (length (slice (at + 1) (at + 1 + getD s at 0) s)))
+        padded h e true t z =
+            let n : suc (length (slice (at + 1) (at + 1 + getD s at 0) s)) % 2 ≡ 0 = omega (arith, string-length at h, eqb-true) in
+            let last : stop ≡ at + 1 + getD s at 0 = omega (arith, eqb-true) in
+            ap (λ (q : ℕ). slice (at + 1 + getD s at 0) q s) last ∙ slice-empty (at + 1 + getD s at 0) s ∙ sym (fill-even _ n)
+        padded h e false t z =
+            let n : suc (length (slice (at + 1) (at + 1 + getD s at 0) s)) % 2 ≡ 1 = omega (arith, string-length at h, eqb-false) in
+            let last : stop ≡ at + 1 + getD s at 0 + 1 = omega (arith, eqb-false) in
+            ap (λ (q : ℕ). slice (at + 1 + getD s at 0) q s) last
+            ∙ byte-spelled (at + 1 + getD s at 0) 0 (omega arith) (eqb-true _ _ z)
+            ∙ sym (fill-odd _ n)
+
+  -- a header and what follows it
+  header-spelled : (p q : ℕ) → p + 4 ≤ q → q ≤ length s
+      → slice p q s ≡ word (be s p 2) ++ (getD s (p + 2) 0 ∷ getD s (p + 3) 0 ∷ slice (p + 4) q s)
+  header-spelled p q h k =
+      let third : p + 2 + 1 ≡ p + 3 = omega arith in
+      let fourth : p + 3 + 1 ≡ p + 4 = omega arith in
+      slice-then p (p + 2) q s (omega arith) (omega arith) (word-spelled p (p + 2) refl (omega arith))
+      (slice-more (p + 2) q s 0 (omega arith) k
+      ∙ ap (λ (j : ℕ). getD s (p + 2) 0 ∷ slice j q s) third
+      ∙ ap (λ (l : List ℕ). getD s (p + 2) 0 ∷ l)
+      (slice-more (p + 3) q s 0 (omega arith) k ∙ ap (λ (j : ℕ). getD s (p + 3) 0 ∷ slice j q s) fourth))
+
+  -- a descriptor whose header is read, where f reads its children
+  node-sound : (d : ℕ) (f : Bool → ℕ → ℕ → ℕ → Outcome Tree)
+      → ((a : Bool) (stop p n : ℕ) → stop ≤ length s → Holds (λ q t. Sound s d a stop p n q t) (f a stop p n))
+      → (a : Bool) (end p n : ℕ) (h : Header) → end ≤ length s → HeaderFits s (suc d) a end p n h
+      → Holds (λ q t. Sound s (suc d) a end p n q t) (nodeAt s f p n h)
+  unfolding nodeAt treeSize encodeWith WellFormed rowCount height
+  node-sound d f sound a end p n h inside fits =
+      let stop : ℕ = p + h .size in
+      let fit : stop ≤ length s = omega (arith, fits .within) in
+      let body : p + 4 ≤ stop = omega (arith, fits .least) in
+      let kind : Kind = kindOf (h .code) in
+      holds-andThen (holds-both (fields-end s p stop fit kind body) (fields-sound p stop fit kind body)) (λ at fs i.
+      holds-andThen
+      (members-sound s d (isArray kind) stop (f (isArray kind) stop) (λ q m. sound (isArray kind) stop q m fit) (childCount fs) at (n + 1) (i .0 .within)
+      (omega (arith, fits .rows))) (λ next ts es.
+      holds-andThen (holds-both (name-ends s p stop fit next) (name-sound p stop fit next)) (λ last m e.
+      let ends : last ≡ p + (4 + fieldsSize fs + forestSize ts + nameSize m) = omega (arith, i .0 .at, es .size, e .0 .0) in
+      let sized : be s p 2 ≡ 4 + fieldsSize fs + forestSize ts + nameSize m = omega (arith, e .0 .1, fits .size) in
+      let rest : slice (p + 4) last s ≡ fieldBytes fs ++ (forestWith (reservedIn s) (p + 4 + fieldsSize fs) ts ++ nameBytes m) =
+      slice-then (p + 4) at last s (omega (arith, i .0 .at)) (omega (arith, es .size, e .0 .0)) (i .1 .0)
+      (slice-then at next last s (omega (arith, es .size)) (omega (arith, e .0 .0))
+      (es .bytes ∙ ap (λ (j : ℕ). forestWith (reservedIn s) j ts) (i .0 .at)) (e .1 .0)) in
+      found (record {
+        size = ends;
+        within = omega (arith, e .0 .1, fits .within);
+        bytes =
+            header-spelled p last (omega arith) (omega (arith, e .0 .1))
+            ∙ (λ j. word (sized j) ++ (getD s (p + 2) 0 ∷ sym (fits .code) j ∷ rest j));
+        formed = record {
+          code = rw (fits .code) (bytes-at s b (p + 3));
+          element = fits .element;
+          fields = i .1 .1;
+          children = es .count;
+          inside = es .formed;
+          name = e .1 .1;
+        };
+        rows = omega (arith, es .rows);
+        depth = omega (arith, es .depth);
+      }))))
+
+  -- a descriptor that is read is spelled by its bytes
+  pub tree-sound : (levels : ℕ) (a : Bool) (end p n : ℕ) → end ≤ length s → Holds (λ q t. Sound s levels a end p n q t) (treeAt levels s a end p n)
+  unfolding treeAt
+  tree-sound zero a end p n inside = holds-andThen (header-fits s zero a end p n) (λ _ h fits. absurd (omega (arith, fits .depth)))
+  tree-sound (suc d) a end p n inside =
+      holds-andThen (header-fits s (suc d) a end p n) (λ _ h fits.
+      node-sound d (λ a stop q m. treeAt d s a stop q m) (λ a stop q m i. tree-sound d a stop q m i) a end p n h inside fits)
+
+  -- the same of what a reading is known to come to
+  pub read-sound : (levels : ℕ) (a : Bool) (end p n q : ℕ) (t : Tree) → end ≤ length s → treeAt levels s a end p n ≡ read q t
+      → Sound s levels a end p n q t
+  read-sound levels a end p n q t inside e = holds-read e (tree-sound levels a end p n inside)

@@ -1,0 +1,1 @@
+// No code: what the bytes of a descriptor and its tree say of each other is proved here.
