@@ -1,5 +1,43 @@
-# make test: the gate, which proves and tests everything.
-.PHONY: test
+# make run       the command on the samples, refused ones among them
+# make test      the gate, which proves and tests everything
+# make bench     the library and the second implementation, timed side by side
+# make memcheck  the differential test under valgrind, every input in a buffer of its exact size
+# make install   the library, its header and the command, below PREFIX
+PREFIX ?= /usr/local
+ARCHIVE = target/staticlib/libkerbcanopy.a
+COMMAND = host/target/release/kerbcanopy
+HOST = --release --offline --locked --manifest-path host/Cargo.toml --target-dir host/target
+
+.PHONY: run test bench memcheck install library command
+
+# rt proves again only what has changed, and builds only what is proved.
+library:
+	@mkdir -p target
+	@rt staticlib kerbcanopy > target/library.log 2>&1 || { cat target/library.log; exit 1; }
+
+command: library
+	cargo build $(HOST) --package cli
+
+# Exit status 1 is an answer, refused or not equal; only trouble stops the run.
+run: command
+	@for sample in samples/*.hex; do $(COMMAND) check "$$sample" || [ $$? -eq 1 ] || exit 1; done
+	$(COMMAND) compare samples/rig.hex samples/rig-reserved.hex
+	$(COMMAND) compare samples/rig.hex samples/reader.hex || [ $$? -eq 1 ]
+	$(COMMAND) normal samples/rig-reserved.hex
 
 test:
 	.ci/run
+
+bench: library
+	cargo run $(HOST) --package bench
+
+memcheck: library
+	@command -v valgrind > /dev/null || apt-get install -y valgrind
+	cargo build $(HOST) --package differential
+	valgrind --quiet --error-exitcode=9 host/target/release/differential --exact
+
+install: command
+	install -d "$(DESTDIR)$(PREFIX)/lib" "$(DESTDIR)$(PREFIX)/include" "$(DESTDIR)$(PREFIX)/bin"
+	install -m 644 $(ARCHIVE) "$(DESTDIR)$(PREFIX)/lib"
+	install -m 644 include/kerbcanopy.h "$(DESTDIR)$(PREFIX)/include"
+	install -m 755 $(COMMAND) "$(DESTDIR)$(PREFIX)/bin"

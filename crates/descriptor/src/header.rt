@@ -2,6 +2,10 @@
 use super::limits::ROW_LIMIT;
 use number::endian::be16;
 ghost use mathlib.Core.Path.{_≡_};
+ghost use Prim.Native.Nat.{_+_, _≤_};
+ghost use lib.ListN.{length, getD};
+ghost use Rattle.number.specs.Endian.{be};
+ghost use Rattle.number.specs.Post.{Bounded};
 ghost use Rattle.descriptor.specs.Codes.{kindOf};
 ghost use Rattle.descriptor.specs.Steps.{refusedHead, kindNumber};
 ghost use Rattle.descriptor.specs.Promises.{Within, HeadMet};
@@ -53,6 +57,22 @@ pub fn kind(code: u8) -> u8
     0
 }
 
+// The size word of the descriptor at p.
+pub fn size_at(d: &[u8], p: usize) -> usize
+    requires { ⌜ p + 2 ≤ length (now d) ⌝ }
+    ensures { λ r. ⌜ Bounded r (be (now (d .entry)) p 2) 65536 ⌝ }
+{
+    be16(d, p)
+}
+
+// The low code byte of the descriptor at p.
+pub fn code_at(d: &[u8], p: usize) -> u8
+    requires { ⌜ p + 4 ≤ length (now d) ⌝ }
+    ensures { λ r. ⌜ r ≡ getD (now (d .entry)) (p + 3) 0 ⌝ }
+{
+    d[p + 3]
+}
+
 fn refuse_head(number: u32, place: usize) -> Head
     ensures { λ r. ⌜ r ≡ refusedHead number place ⌝ }
 {
@@ -73,7 +93,7 @@ pub fn header(d: &[u8], levels: usize, in_array: bool, end: usize, p: usize, n: 
     if end - p < 4 {
         return refuse_head(2, p);
     }
-    let size = be16(d, p);
+    let size = size_at(d, p);
     if 32768 <= size {
         return refuse_head(3, p);
     }
@@ -86,7 +106,7 @@ pub fn header(d: &[u8], levels: usize, in_array: bool, end: usize, p: usize, n: 
     if end - p < size {
         return refuse_head(4, p);
     }
-    let code = d[p + 3];
+    let code = code_at(d, p);
     if kind(code) == 0 {
         return refuse_head(5, p);
     }

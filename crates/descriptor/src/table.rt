@@ -1,8 +1,9 @@
 // The table of an accepted descriptor.
 use super::answer::Row;
 use super::fields::fields;
+use super::header::code_at;
+use super::header::size_at;
 use super::limits::DEPTH_LIMIT;
-use number::endian::be16;
 ghost use mathlib.Core.Path.{_≡_};
 ghost use Prim.Native.Nat.{_+_, _-_};
 ghost use Rattle.descriptor.specs.Table.{zeroRow, zeroRows};
@@ -73,8 +74,8 @@ pub fn tabulate_row(d: &[u8], left: usize, k: usize, mut t: Table) -> Table
     while i < k {
         let p = t.at;
         let n = t.n;
-        let size = be16(d, p);
-        let code = d[p + 3];
+        let size = size_at(d, p);
+        let code = code_at(d, p);
         let b = fields(d, code, p, p + size);
         t.at = b.next;
         t.n = n + 1;

@@ -1,19 +1,13 @@
 -- `header` reads the header as document 01 has it: each return by the tests that lead to it. Assumes nothing.
 use mathlib.Core.Path.{_≡_, refl, sym, _∙_, ap}
 use native.Mathlib.Omega.{arith}
-use borrow.Author.Needs.{needs}
 use borrow.Author.Tests.{eq-eqb, ne-eqb, le-leb, lt-leb, lt-ltb, le-ltb}
-use Rattle.descriptor.specs.Codes.{kindOf}
 use Rattle.descriptor.specs.Check.{headerAt}
 use Rattle.descriptor.proofs.CodeKinds.{not-carried, carried, array-code, other-code}
 use Rattle.descriptor.proofs.Steps.{impossible}
+use borrow.Author.Needs.{needs}
 use Rattle.descriptor.proofs.header.header.Statement.{statement}
 use Rattle.descriptor.proofs.header.header.Tie as tie
-use Rattle.descriptor.proofs.header.header.Reads as reads
-use Rattle.descriptor.proofs.header.header.Lts as lts
-use Rattle.descriptor.proofs.header.kind.Reads as kind-reads
-use Rattle.descriptor.proofs.header.refuse_head.Reads as refuse-head-reads
-use Rattle.number.proofs.be16.Reads as be16-reads
 
 sub-if1 : tie.Need-sub-if1
 sub-if1 c = search needs
@@ -25,29 +19,29 @@ returns : tie.Need-returns
 unfolding headerAt
 returns c = rw (c .refuse-head .ensures) record { eq = simp (lt-leb _ _ (c .before .if1 .taken)); good = λ q. impossible q }
 
-be16-requires : tie.Need-be16-requires
-be16-requires c κs = search needs
+size-at-requires : tie.Need-size-at-requires
+size-at-requires c κs = search needs
 
 refuse-head-requires-2 : tie.Need-refuse-head-requires-2
 refuse-head-requires-2 c κs = search needs
 
 returns-2 : tie.Need-returns-2
 unfolding headerAt
-returns-2 c = rw (c .refuse-head2 .ensures) record { eq = simp (le-leb _ _ (c .before .before .before .if1 .left), le-ltb _ _ (rw (c .before .before .be16 .ensures .eq) at (c .before .if2 .taken))); good = λ q. impossible q }
+returns-2 c = rw (c .refuse-head2 .ensures) record { eq = simp (le-leb _ _ (c .before .before .before .if1 .left), le-ltb _ _ (rw (c .before .before .size-at .ensures .eq) at (c .before .if2 .taken))); good = λ q. impossible q }
 
 refuse-head-requires-3 : tie.Need-refuse-head-requires-3
 refuse-head-requires-3 c κs = search needs
 
 returns-3 : tie.Need-returns-3
 unfolding headerAt
-returns-3 c = rw (c .refuse-head3 .ensures) record { eq = simp (le-leb _ _ (c .before .before .before .before .if1 .left), lt-ltb _ _ (rw (c .before .before .before .be16 .ensures .eq) at (c .before .before .if2 .left)), ne-eqb _ _ (rw (c .before .before .before .be16 .ensures .eq) at (c .before .if3 .taken))); good = λ q. impossible q }
+returns-3 c = rw (c .refuse-head3 .ensures) record { eq = simp (le-leb _ _ (c .before .before .before .before .if1 .left), lt-ltb _ _ (rw (c .before .before .before .size-at .ensures .eq) at (c .before .before .if2 .left)), ne-eqb _ _ (rw (c .before .before .before .size-at .ensures .eq) at (c .before .if3 .taken))); good = λ q. impossible q }
 
 refuse-head-requires-4 : tie.Need-refuse-head-requires-4
 refuse-head-requires-4 c κs = search needs
 
 returns-4 : tie.Need-returns-4
 unfolding headerAt
-returns-4 c = rw (c .refuse-head4 .ensures) record { eq = simp (le-leb _ _ (c .before .before .before .before .before .if1 .left), lt-ltb _ _ (rw (c .before .before .before .before .be16 .ensures .eq) at (c .before .before .before .if2 .left)), eq-eqb _ _ (rw (c .before .before .before .before .be16 .ensures .eq) at (c .before .before .if3 .left)), lt-leb _ _ (rw (c .before .before .before .before .be16 .ensures .eq) at (c .before .if4 .taken))); good = λ q. impossible q }
+returns-4 c = rw (c .refuse-head4 .ensures) record { eq = simp (le-leb _ _ (c .before .before .before .before .before .if1 .left), lt-ltb _ _ (rw (c .before .before .before .before .size-at .ensures .eq) at (c .before .before .before .if2 .left)), eq-eqb _ _ (rw (c .before .before .before .before .size-at .ensures .eq) at (c .before .before .if3 .left)), lt-leb _ _ (rw (c .before .before .before .before .size-at .ensures .eq) at (c .before .if4 .taken))); good = λ q. impossible q }
 
 sub-if5 : tie.Need-sub-if5
 sub-if5 c = search needs
@@ -57,13 +51,10 @@ refuse-head-requires-5 c κs = search needs
 
 returns-5 : tie.Need-returns-5
 unfolding headerAt
-returns-5 c = rw (c .refuse-head5 .ensures) record { eq = simp (le-leb _ _ (c .before .before .before .before .before .before .if1 .left), lt-ltb _ _ (rw (c .before .before .before .before .before .be16 .ensures .eq) at (c .before .before .before .before .if2 .left)), eq-eqb _ _ (rw (c .before .before .before .before .before .be16 .ensures .eq) at (c .before .before .before .if3 .left)), le-leb _ _ (rw (c .before .before .before .before .before .be16 .ensures .eq) at (c .before .before .if4 .left)), lt-leb _ _ (rw (c .before .before .before .before .before .be16 .ensures .eq) at (c .before .if5 .taken))); good = λ q. impossible q }
+returns-5 c = rw (c .refuse-head5 .ensures) record { eq = simp (le-leb _ _ (c .before .before .before .before .before .before .if1 .left), lt-ltb _ _ (rw (c .before .before .before .before .before .size-at .ensures .eq) at (c .before .before .before .before .if2 .left)), eq-eqb _ _ (rw (c .before .before .before .before .before .size-at .ensures .eq) at (c .before .before .before .if3 .left)), le-leb _ _ (rw (c .before .before .before .before .before .size-at .ensures .eq) at (c .before .before .if4 .left)), lt-leb _ _ (rw (c .before .before .before .before .before .size-at .ensures .eq) at (c .before .if5 .taken))); good = λ q. impossible q }
 
-add-code : tie.Need-add-code
-add-code c = search needs
-
-shared-slice-read-code : tie.Need-shared-slice-read-code
-shared-slice-read-code c = search needs
+code-at-requires : tie.Need-code-at-requires
+code-at-requires c κs = omega (arith, c .before .before .before .before .before .if1 .left, c .before .before .before .before .before .before .before .pre .inside)
 
 kind-requires : tie.Need-kind-requires
 kind-requires c κs = search needs
@@ -73,36 +64,36 @@ refuse-head-requires-6 c κs = search needs
 
 returns-6 : tie.Need-returns-6
 unfolding headerAt
-returns-6 c = rw (c .refuse-head6 .ensures) record { eq = simp (le-leb _ _ (c .before .before .before .before .before .before .before .before .before .if1 .left), lt-ltb _ _ (rw (c .before .before .before .before .before .before .before .before .be16 .ensures .eq) at (c .before .before .before .before .before .before .before .if2 .left)), eq-eqb _ _ (rw (c .before .before .before .before .before .before .before .before .be16 .ensures .eq) at (c .before .before .before .before .before .before .if3 .left)), le-leb _ _ (rw (c .before .before .before .before .before .before .before .before .be16 .ensures .eq) at (c .before .before .before .before .before .if4 .left)), le-leb _ _ (rw (c .before .before .before .before .before .before .before .before .be16 .ensures .eq) at (c .before .before .before .before .if5 .left)), not-carried _ (sym (c .before .before .kind .ensures) ∙ c .before .if6 .taken)); good = λ q. impossible q }
+returns-6 c = rw (c .refuse-head6 .ensures) record { eq = rw (← c .before .before .before .code-at .ensures) (simp (le-leb _ _ (c .before .before .before .before .before .before .before .before .before .if1 .left), lt-ltb _ _ (rw (c .before .before .before .before .before .before .before .before .size-at .ensures .eq) at (c .before .before .before .before .before .before .before .if2 .left)), eq-eqb _ _ (rw (c .before .before .before .before .before .before .before .before .size-at .ensures .eq) at (c .before .before .before .before .before .before .if3 .left)), le-leb _ _ (rw (c .before .before .before .before .before .before .before .before .size-at .ensures .eq) at (c .before .before .before .before .before .if4 .left)), le-leb _ _ (rw (c .before .before .before .before .before .before .before .before .size-at .ensures .eq) at (c .before .before .before .before .if5 .left)), not-carried _ (sym (c .before .before .kind .ensures) ∙ c .before .if6 .taken))); good = λ q. impossible q }
 
 refuse-head-requires-7 : tie.Need-refuse-head-requires-7
 refuse-head-requires-7 c κs = search needs
 
 returns-7 : tie.Need-returns-7
 unfolding headerAt
-returns-7 c = rw (c .refuse-head7 .ensures) record { eq = simp (le-leb _ _ (c .before .before .before .before .before .before .before .before .before .before .if1 .left), lt-ltb _ _ (rw (c .before .before .before .before .before .before .before .before .before .be16 .ensures .eq) at (c .before .before .before .before .before .before .before .before .if2 .left)), eq-eqb _ _ (rw (c .before .before .before .before .before .before .before .before .before .be16 .ensures .eq) at (c .before .before .before .before .before .before .before .if3 .left)), le-leb _ _ (rw (c .before .before .before .before .before .before .before .before .before .be16 .ensures .eq) at (c .before .before .before .before .before .before .if4 .left)), le-leb _ _ (rw (c .before .before .before .before .before .before .before .before .before .be16 .ensures .eq) at (c .before .before .before .before .before .if5 .left)), carried _ (λ e. c .before .before .if6 .left (c .before .before .before .kind .ensures ∙ e)), le-ltb 0 (c .before .before .before .before .before .before .before .before .before .before .before .before .args .levels) (omega (arith, c .before .if7 .taken))); good = λ q. impossible q }
+returns-7 c = rw (c .refuse-head7 .ensures) record { eq = rw (← c .before .before .before .before .code-at .ensures) (simp (le-leb _ _ (c .before .before .before .before .before .before .before .before .before .before .if1 .left), lt-ltb _ _ (rw (c .before .before .before .before .before .before .before .before .before .size-at .ensures .eq) at (c .before .before .before .before .before .before .before .before .if2 .left)), eq-eqb _ _ (rw (c .before .before .before .before .before .before .before .before .before .size-at .ensures .eq) at (c .before .before .before .before .before .before .before .if3 .left)), le-leb _ _ (rw (c .before .before .before .before .before .before .before .before .before .size-at .ensures .eq) at (c .before .before .before .before .before .before .if4 .left)), le-leb _ _ (rw (c .before .before .before .before .before .before .before .before .before .size-at .ensures .eq) at (c .before .before .before .before .before .if5 .left)), carried _ (λ e. c .before .before .if6 .left (c .before .before .before .kind .ensures ∙ e)), le-ltb 0 (c .before .before .before .before .before .before .before .before .before .before .before .before .args .levels) (omega (arith, c .before .if7 .taken)))); good = λ q. impossible q }
 
 refuse-head-requires-8 : tie.Need-refuse-head-requires-8
 refuse-head-requires-8 c κs = search needs
 
 returns-8 : tie.Need-returns-8
 unfolding headerAt
-returns-8 c = rw (c .refuse-head8 .ensures) record { eq = simp (le-leb _ _ (c .before .before .before .before .before .before .before .before .before .before .before .if1 .left), lt-ltb _ _ (rw (c .before .before .before .before .before .before .before .before .before .before .be16 .ensures .eq) at (c .before .before .before .before .before .before .before .before .before .if2 .left)), eq-eqb _ _ (rw (c .before .before .before .before .before .before .before .before .before .before .be16 .ensures .eq) at (c .before .before .before .before .before .before .before .before .if3 .left)), le-leb _ _ (rw (c .before .before .before .before .before .before .before .before .before .before .be16 .ensures .eq) at (c .before .before .before .before .before .before .before .if4 .left)), le-leb _ _ (rw (c .before .before .before .before .before .before .before .before .before .before .be16 .ensures .eq) at (c .before .before .before .before .before .before .if5 .left)), carried _ (λ e. c .before .before .before .if6 .left (c .before .before .before .before .kind .ensures ∙ e)), lt-ltb 0 (c .before .before .before .before .before .before .before .before .before .before .before .before .before .args .levels) (omega (arith, c .before .before .if7 .left)), le-ltb _ _ (c .before .if8 .taken)); good = λ q. impossible q }
+returns-8 c = rw (c .refuse-head8 .ensures) record { eq = rw (← c .before .before .before .before .before .code-at .ensures) (simp (le-leb _ _ (c .before .before .before .before .before .before .before .before .before .before .before .if1 .left), lt-ltb _ _ (rw (c .before .before .before .before .before .before .before .before .before .before .size-at .ensures .eq) at (c .before .before .before .before .before .before .before .before .before .if2 .left)), eq-eqb _ _ (rw (c .before .before .before .before .before .before .before .before .before .before .size-at .ensures .eq) at (c .before .before .before .before .before .before .before .before .if3 .left)), le-leb _ _ (rw (c .before .before .before .before .before .before .before .before .before .before .size-at .ensures .eq) at (c .before .before .before .before .before .before .before .if4 .left)), le-leb _ _ (rw (c .before .before .before .before .before .before .before .before .before .before .size-at .ensures .eq) at (c .before .before .before .before .before .before .if5 .left)), carried _ (λ e. c .before .before .before .if6 .left (c .before .before .before .before .kind .ensures ∙ e)), lt-ltb 0 (c .before .before .before .before .before .before .before .before .before .before .before .before .before .args .levels) (omega (arith, c .before .before .if7 .left)), le-ltb _ _ (c .before .if8 .taken))); good = λ q. impossible q }
 
 refuse-head-requires-9 : tie.Need-refuse-head-requires-9
 refuse-head-requires-9 c κs = search needs
 
 returns-9 : tie.Need-returns-9
 unfolding headerAt
-returns-9 c = rw (c .refuse-head9 .ensures) record { eq = simp (le-leb _ _ (c .before .before .before .before .before .before .before .before .before .before .before .before .before .if1 .left), lt-ltb _ _ (rw (c .before .before .before .before .before .before .before .before .before .before .before .before .be16 .ensures .eq) at (c .before .before .before .before .before .before .before .before .before .before .before .if2 .left)), eq-eqb _ _ (rw (c .before .before .before .before .before .before .before .before .before .before .before .before .be16 .ensures .eq) at (c .before .before .before .before .before .before .before .before .before .before .if3 .left)), le-leb _ _ (rw (c .before .before .before .before .before .before .before .before .before .before .before .before .be16 .ensures .eq) at (c .before .before .before .before .before .before .before .before .before .if4 .left)), le-leb _ _ (rw (c .before .before .before .before .before .before .before .before .before .before .before .before .be16 .ensures .eq) at (c .before .before .before .before .before .before .before .before .if5 .left)), carried _ (λ e. c .before .before .before .before .before .if6 .left (c .before .before .before .before .before .before .kind .ensures ∙ e)), lt-ltb 0 (c .before .before .before .before .before .before .before .before .before .before .before .before .before .before .before .args .levels) (omega (arith, c .before .before .before .before .if7 .left)), lt-ltb _ _ (c .before .before .before .if8 .left), c .before .before .if9 .taken, array-code _ (c .before .if10 .taken)); good = λ q. impossible q }
+returns-9 c = rw (c .refuse-head9 .ensures) record { eq = rw (← c .before .before .before .before .before .before .before .code-at .ensures) (simp (le-leb _ _ (c .before .before .before .before .before .before .before .before .before .before .before .before .before .if1 .left), lt-ltb _ _ (rw (c .before .before .before .before .before .before .before .before .before .before .before .before .size-at .ensures .eq) at (c .before .before .before .before .before .before .before .before .before .before .before .if2 .left)), eq-eqb _ _ (rw (c .before .before .before .before .before .before .before .before .before .before .before .before .size-at .ensures .eq) at (c .before .before .before .before .before .before .before .before .before .before .if3 .left)), le-leb _ _ (rw (c .before .before .before .before .before .before .before .before .before .before .before .before .size-at .ensures .eq) at (c .before .before .before .before .before .before .before .before .before .if4 .left)), le-leb _ _ (rw (c .before .before .before .before .before .before .before .before .before .before .before .before .size-at .ensures .eq) at (c .before .before .before .before .before .before .before .before .if5 .left)), carried _ (λ e. c .before .before .before .before .before .if6 .left (c .before .before .before .before .before .before .kind .ensures ∙ e)), lt-ltb 0 (c .before .before .before .before .before .before .before .before .before .before .before .before .before .before .before .args .levels) (omega (arith, c .before .before .before .before .if7 .left)), lt-ltb _ _ (c .before .before .before .if8 .left), c .before .before .if9 .taken, array-code _ (c .before .if10 .taken))); good = λ q. impossible q }
 
 returns-10 : tie.Need-returns-10
 unfolding headerAt
-returns-10 c = record { eq = rw (c .before .before .before .before .before .before .before .before .before .before .before .be16 .ensures .eq) (simp (le-leb _ _ (c .before .before .before .before .before .before .before .before .before .before .before .before .if1 .left), lt-ltb _ _ (rw (c .before .before .before .before .before .before .before .before .before .before .before .be16 .ensures .eq) at (c .before .before .before .before .before .before .before .before .before .before .if2 .left)), eq-eqb _ _ (rw (c .before .before .before .before .before .before .before .before .before .before .before .be16 .ensures .eq) at (c .before .before .before .before .before .before .before .before .before .if3 .left)), le-leb _ _ (rw (c .before .before .before .before .before .before .before .before .before .before .before .be16 .ensures .eq) at (c .before .before .before .before .before .before .before .before .if4 .left)), le-leb _ _ (rw (c .before .before .before .before .before .before .before .before .before .before .before .be16 .ensures .eq) at (c .before .before .before .before .before .before .before .if5 .left)), carried _ (λ e. c .before .before .before .before .if6 .left (c .before .before .before .before .before .kind .ensures ∙ e)), lt-ltb 0 (c .before .before .before .before .before .before .before .before .before .before .before .before .before .before .args .levels) (omega (arith, c .before .before .before .if7 .left)), lt-ltb _ _ (c .before .before .if8 .left), c .before .if9 .taken, other-code _ (c .if10 .left))); good = λ q. record { level = omega (arith, c .before .before .before .if7 .left); room = c .before .before .if8 .left; least = c .before .before .before .before .before .before .before .before .if4 .left; inside = omega (arith, c .before .before .before .before .before .before .before .if5 .left, c .before .before .before .before .before .before .before .before .before .before .before .before .if1 .left) } }
+returns-10 c = record { eq = rw (c .before .before .before .before .before .before .before .before .before .before .before .size-at .ensures .eq, ← c .before .before .before .before .before .before .code-at .ensures) (simp (le-leb _ _ (c .before .before .before .before .before .before .before .before .before .before .before .before .if1 .left), lt-ltb _ _ (rw (c .before .before .before .before .before .before .before .before .before .before .before .size-at .ensures .eq) at (c .before .before .before .before .before .before .before .before .before .before .if2 .left)), eq-eqb _ _ (rw (c .before .before .before .before .before .before .before .before .before .before .before .size-at .ensures .eq) at (c .before .before .before .before .before .before .before .before .before .if3 .left)), le-leb _ _ (rw (c .before .before .before .before .before .before .before .before .before .before .before .size-at .ensures .eq) at (c .before .before .before .before .before .before .before .before .if4 .left)), le-leb _ _ (rw (c .before .before .before .before .before .before .before .before .before .before .before .size-at .ensures .eq) at (c .before .before .before .before .before .before .before .if5 .left)), carried _ (λ e. c .before .before .before .before .if6 .left (c .before .before .before .before .before .kind .ensures ∙ e)), lt-ltb 0 (c .before .before .before .before .before .before .before .before .before .before .before .before .before .before .args .levels) (omega (arith, c .before .before .before .if7 .left)), lt-ltb _ _ (c .before .before .if8 .left), c .before .if9 .taken, other-code _ (c .if10 .left))); good = λ q. record { level = omega (arith, c .before .before .before .if7 .left); room = c .before .before .if8 .left; least = c .before .before .before .before .before .before .before .before .if4 .left; inside = omega (arith, c .before .before .before .before .before .before .before .if5 .left, c .before .before .before .before .before .before .before .before .before .before .before .before .if1 .left) } }
 
 returns-11 : tie.Need-returns-11
 unfolding headerAt
-returns-11 c = record { eq = rw (c .before .before .before .before .before .before .before .before .before .before .be16 .ensures .eq) (simp (le-leb _ _ (c .before .before .before .before .before .before .before .before .before .before .before .if1 .left), lt-ltb _ _ (rw (c .before .before .before .before .before .before .before .before .before .before .be16 .ensures .eq) at (c .before .before .before .before .before .before .before .before .before .if2 .left)), eq-eqb _ _ (rw (c .before .before .before .before .before .before .before .before .before .before .be16 .ensures .eq) at (c .before .before .before .before .before .before .before .before .if3 .left)), le-leb _ _ (rw (c .before .before .before .before .before .before .before .before .before .before .be16 .ensures .eq) at (c .before .before .before .before .before .before .before .if4 .left)), le-leb _ _ (rw (c .before .before .before .before .before .before .before .before .before .before .be16 .ensures .eq) at (c .before .before .before .before .before .before .if5 .left)), carried _ (λ e. c .before .before .before .if6 .left (c .before .before .before .before .kind .ensures ∙ e)), lt-ltb 0 (c .before .before .before .before .before .before .before .before .before .before .before .before .before .args .levels) (omega (arith, c .before .before .if7 .left)), lt-ltb _ _ (c .before .if8 .left), c .if9 .left)); good = λ q. record { level = omega (arith, c .before .before .if7 .left); room = c .before .if8 .left; least = c .before .before .before .before .before .before .before .if4 .left; inside = omega (arith, c .before .before .before .before .before .before .if5 .left, c .before .before .before .before .before .before .before .before .before .before .before .if1 .left) } }
+returns-11 c = record { eq = rw (c .before .before .before .before .before .before .before .before .before .before .size-at .ensures .eq, ← c .before .before .before .before .before .code-at .ensures) (simp (le-leb _ _ (c .before .before .before .before .before .before .before .before .before .before .before .if1 .left), lt-ltb _ _ (rw (c .before .before .before .before .before .before .before .before .before .before .size-at .ensures .eq) at (c .before .before .before .before .before .before .before .before .before .if2 .left)), eq-eqb _ _ (rw (c .before .before .before .before .before .before .before .before .before .before .size-at .ensures .eq) at (c .before .before .before .before .before .before .before .before .if3 .left)), le-leb _ _ (rw (c .before .before .before .before .before .before .before .before .before .before .size-at .ensures .eq) at (c .before .before .before .before .before .before .before .if4 .left)), le-leb _ _ (rw (c .before .before .before .before .before .before .before .before .before .before .size-at .ensures .eq) at (c .before .before .before .before .before .before .if5 .left)), carried _ (λ e. c .before .before .before .if6 .left (c .before .before .before .before .kind .ensures ∙ e)), lt-ltb 0 (c .before .before .before .before .before .before .before .before .before .before .before .before .before .args .levels) (omega (arith, c .before .before .if7 .left)), lt-ltb _ _ (c .before .if8 .left), c .if9 .left)); good = λ q. record { level = omega (arith, c .before .before .if7 .left); room = c .before .if8 .left; least = c .before .before .before .before .before .before .before .if4 .left; inside = omega (arith, c .before .before .before .before .before .before .if5 .left, c .before .before .before .before .before .before .before .before .before .before .before .if1 .left) } }
 
 pub header-spec : {M : Type 1} → statement M
 header-spec =
@@ -111,7 +102,7 @@ header-spec =
     sub-if1
     refuse-head-requires
     returns
-    be16-requires
+    size-at-requires
     refuse-head-requires-2
     returns-2
     refuse-head-requires-3
@@ -121,8 +112,7 @@ header-spec =
     sub-if5
     refuse-head-requires-5
     returns-5
-    add-code
-    shared-slice-read-code
+    code-at-requires
     kind-requires
     refuse-head-requires-6
     returns-6

@@ -10,7 +10,9 @@ use lib.ListN.{length}
 use Rattle.descriptor.specs.Limits.{depthLimit}
 use Rattle.descriptor.specs.Codes.{kindOf}
 use Rattle.descriptor.specs.Tree.{countOf, childCount, forestSize}
-use Rattle.descriptor.specs.Filling.{filled}
+use Rattle.descriptor.specs.Check.{fieldsAt}
+use Rattle.descriptor.specs.Steps.{fieldsStep}
+use Rattle.descriptor.specs.Filling.{filled, rowRead}
 use Rattle.descriptor.proofs.Outcomes.{holds-read}
 use Rattle.descriptor.proofs.Filling.{FillLoop, First, first, fill-begin, fill-pre, fill-more, fill-done, fields-count, low, room, filled-none, turned, turn-children, turn-row, turn-done}
 use Prim.Native.Nat.{ℕ, _<_}
@@ -20,8 +22,9 @@ use Rattle.descriptor.proofs.table.tabulate_row.Reads as tabulate-row
 use Rattle.descriptor.proofs.table.tabulate_row.Kinds as tabulate-row-kinds
 use Rattle.descriptor.proofs.table.+tabulate_row.Lts-tabulate_row as tabulate-row-lts
 use Rattle.descriptor.proofs.fields.fields.Reads as fields-reads
+use Rattle.descriptor.proofs.header.code_at.Reads as code-at-reads
+use Rattle.descriptor.proofs.header.size_at.Reads as size-at-reads
 use Rattle.descriptor.proofs.table.row_at.Reads as row-at-reads
-use Rattle.number.proofs.be16.Reads as be16-reads
 use Rattle.descriptor.proofs.table.+tabulate_row.{statement}
 use Rattle.descriptor.proofs.table.+tabulate_row.Tie.{close}
 
@@ -42,7 +45,7 @@ tabulate-row-below t =
 
 -- what the callees ask and give, and this function below the measure t
 abbrev cs : ℕ → tabulate-row-lts.Claims
-cs t = (be16-reads.Asked, be16-reads.Learnt, fields-reads.Asked, fields-reads.Learnt, tabulate-row-below t, tabulate-row.Post, row-at-reads.Asked, row-at-reads.Learnt)
+cs t = (size-at-reads.Asked, size-at-reads.Learnt, code-at-reads.Asked, code-at-reads.Learnt, fields-reads.Asked, fields-reads.Learnt, tabulate-row-below t, tabulate-row.Post, row-at-reads.Asked, row-at-reads.Learnt)
 
 abbrev inv : tabulate-row-lts.InvT-loop
 inv d left k t₀ i₀ t i = FillLoop d left k t₀ t i
@@ -53,8 +56,8 @@ abbrev μ : tabulate-row-lts.MeasureT-loop
 tabulate-row-loop-holds : (t : ℕ) → tabulate-row-lts.Need-loop-holds (cs t) (tabulate-row-at t) tabulate-row.Post inv μ
 tabulate-row-loop-holds t c = fill-begin (now (c .before .args .d)) (c .before .args .left) (c .before .args .k) (c .before .args .t4) (c .before .pre .1)
 
-tabulate-row-be16-requires : (t : ℕ) → tabulate-row-lts.Need-be16-requires (cs t) (tabulate-row-at t) tabulate-row.Post inv μ
-tabulate-row-be16-requires t c κs = let a = c .before .before .before .args in
+tabulate-row-size-at-requires : (t : ℕ) → tabulate-row-lts.Need-size-at-requires (cs t) (tabulate-row-at t) tabulate-row.Post inv μ
+tabulate-row-size-at-requires t c κs = let a = c .before .before .before .args in
     let s = now (a .d) in
     let l = c .before .loop in
     let more = c .loop-test .taken in
@@ -64,22 +67,11 @@ tabulate-row-be16-requires t c κs = let a = c .before .before .before .args in
     let o = w .opened in
     omega (arith, o .size, o .least, o .inside)
 
-tabulate-row-add-code : (t : ℕ) → tabulate-row-lts.Need-add-code (cs t) (tabulate-row-at t) tabulate-row.Post inv μ
-tabulate-row-add-code t c = let a = c .before .before .before .before .args in
+tabulate-row-code-at-requires : (t : ℕ) → tabulate-row-lts.Need-code-at-requires (cs t) (tabulate-row-at t) tabulate-row.Post inv μ
+tabulate-row-code-at-requires t c κs = let a = c .before .before .before .before .args in
     let s = now (a .d) in
     let l = c .before .before .loop in
     let more = c .before .loop-test .taken in
-    let k = a .k - (l .i + 1) in
-    let pre = fill-pre s (a .left) (a .k) (a .t4) (l .t) (l .i) (l .inv) more in
-    let w = first s (a .left) k (l .t) pre in
-    let o = w .opened in
-    omega (arith, o .size, o .least, o .inside, pre .small)
-
-tabulate-row-shared-slice-read-code : (t : ℕ) → tabulate-row-lts.Need-shared-slice-read-code (cs t) (tabulate-row-at t) tabulate-row.Post inv μ
-tabulate-row-shared-slice-read-code t c = let a = c .before .before .before .before .before .args in
-    let s = now (a .d) in
-    let l = c .before .before .before .loop in
-    let more = c .before .before .loop-test .taken in
     let k = a .k - (l .i + 1) in
     let pre = fill-pre s (a .left) (a .k) (a .t4) (l .t) (l .i) (l .inv) more in
     let w = first s (a .left) k (l .t) pre in
@@ -95,7 +87,7 @@ tabulate-row-add-fields t c = let a = c .before .before .before .before .before 
     let pre = fill-pre s (a .left) (a .k) (a .t4) (l .t) (l .i) (l .inv) more in
     let w = first s (a .left) k (l .t) pre in
     let o = w .opened in
-    omega (arith, o .size, o .inside, pre .small, c .before .be16 .ensures .eq)
+    omega (arith, o .size, o .inside, pre .small, c .before .size-at .ensures .eq)
 
 tabulate-row-fields-requires : (t : ℕ) → tabulate-row-lts.Need-fields-requires (cs t) (tabulate-row-at t) tabulate-row.Post inv μ
 tabulate-row-fields-requires t c κs = let a = c .before .before .before .before .before .args in
@@ -106,7 +98,7 @@ tabulate-row-fields-requires t c κs = let a = c .before .before .before .before
     let pre = fill-pre s (a .left) (a .k) (a .t4) (l .t) (l .i) (l .inv) more in
     let w = first s (a .left) k (l .t) pre in
     let o = w .opened in
-    record { from = omega arith; inside = omega (arith, o .size, o .inside, c .before .be16 .ensures .eq); small = pre .small }
+    record { from = omega arith; inside = omega (arith, o .size, o .inside, c .before .size-at .ensures .eq); small = pre .small }
 
 tabulate-row-add-t : (t : ℕ) → tabulate-row-lts.Need-add-t (cs t) (tabulate-row-at t) tabulate-row.Post inv μ
 tabulate-row-add-t t c = let a = c .before .before .before .before .before .before .args in
@@ -140,8 +132,8 @@ tabulate-row-tabulate-row-requires t c κs = let a = c .before .before .before .
     let w = first s (a .left) k (l .t) pre in
     let o = w .opened in
     let b = c .before .before .fields in
-    let es = c .before .before .before .before .be16 .ensures .eq in
-    (omega (arith, c .before .before .before .before .before .before .before .before .pre .0, low s (a .left) k (l .t) pre w), turn-children s (a .left) k (l .t) pre w (c .before .before .before .before .be16 .result) es (b .result) (b .ensures))
+    let es = c .before .before .before .before .size-at .ensures .eq in
+    (omega (arith, c .before .before .before .before .before .before .before .before .pre .0, low s (a .left) k (l .t) pre w), turn-children s (a .left) k (l .t) pre w (c .before .before .before .before .size-at .result) es (b .result) (b .ensures ∙ ap (λ x. fieldsStep (fieldsAt (kindOf x) s (l .t .at) (l .t .at + c .before .before .before .before .size-at .result))) (c .before .before .before .code-at .ensures)))
 
 tabulate-row-add-row-at : (t : ℕ) → tabulate-row-lts.Need-add-row-at (cs t) (tabulate-row-at t) tabulate-row.Post inv μ
 tabulate-row-add-row-at t c = search needs
@@ -167,23 +159,15 @@ tabulate-row-row-at-requires t c κs = let a = c .before .before .before .before
     let w = first s (a .left) k (l .t) pre in
     let o = w .opened in
     let b = c .before .before .fields in
-    let es = c .before .before .before .before .be16 .ensures .eq in
+    let es = c .before .before .before .before .size-at .ensures .eq in
     let v = c .if1 .t in
-    let ev : v ≡ filled s (a .left - 1) (b .result .children) (turned s (a .left) k (l .t) pre w (c .before .before .before .before .be16 .result) es (b .result) (b .ensures)) =
+    let ev : v ≡ filled s (a .left - 1) (b .result .children) (turned s (a .left) k (l .t) pre w (c .before .before .before .before .size-at .result) es (b .result) (b .ensures ∙ ap (λ x. fieldsStep (fieldsAt (kindOf x) s (l .t .at) (l .t .at + c .before .before .before .before .size-at .result))) (c .before .before .before .code-at .ensures))) =
     ⊎-elim (λ u. u .2 ∙ u .1 .ensures)
-    (λ u. u .1 ∙ sym (ap (λ j. filled s (a .left - 1) j (turned s (a .left) k (l .t) pre w (c .before .before .before .before .be16 .result) es (b .result) (b .ensures))) (omega (arith, u .0 .left)) ∙ filled-none s (a .left - 1) (turned s (a .left) k (l .t) pre w (c .before .before .before .before .be16 .result) es (b .result) (b .ensures)))) (c .if1 .came) in
-    turn-row s (a .left) k (l .t) pre w (c .before .before .before .before .be16 .result) es (b .result) (b .ensures) v ev
+    (λ u. u .1 ∙ sym (ap (λ j. filled s (a .left - 1) j (turned s (a .left) k (l .t) pre w (c .before .before .before .before .size-at .result) es (b .result) (b .ensures ∙ ap (λ x. fieldsStep (fieldsAt (kindOf x) s (l .t .at) (l .t .at + c .before .before .before .before .size-at .result))) (c .before .before .before .code-at .ensures)))) (omega (arith, u .0 .left)) ∙ filled-none s (a .left - 1) (turned s (a .left) k (l .t) pre w (c .before .before .before .before .size-at .result) es (b .result) (b .ensures ∙ ap (λ x. fieldsStep (fieldsAt (kindOf x) s (l .t .at) (l .t .at + c .before .before .before .before .size-at .result))) (c .before .before .before .code-at .ensures))))) (c .if1 .came) in
+    turn-row s (a .left) k (l .t) pre w (c .before .before .before .before .size-at .result) es (b .result) (b .ensures ∙ ap (λ x. fieldsStep (fieldsAt (kindOf x) s (l .t .at) (l .t .at + c .before .before .before .before .size-at .result))) (c .before .before .before .code-at .ensures)) v ev
 
-tabulate-row-mul-t22 : (t : ℕ) → tabulate-row-lts.Need-mul-t22 (cs t) (tabulate-row-at t) tabulate-row.Post inv μ
-tabulate-row-mul-t22 t c = let a = c .before .before .before .before .before .before .before .before .before .args in
-    let s = now (a .d) in
-    let l = c .before .before .before .before .before .before .before .loop in
-    let more = c .before .before .before .before .before .before .loop-test .taken in
-    let k = a .k - (l .i + 1) in
-    let pre = fill-pre s (a .left) (a .k) (a .t4) (l .t) (l .i) (l .inv) more in
-    let w = first s (a .left) k (l .t) pre in
-    let o = w .opened in
-    omega (arith, room s (a .left) k (l .t) pre w)
+tabulate-row-mul-t20 : (t : ℕ) → tabulate-row-lts.Need-mul-t20 (cs t) (tabulate-row-at t) tabulate-row.Post inv μ
+tabulate-row-mul-t20 t c = search needs
 
 tabulate-row-element-set-from-t : (t : ℕ) → tabulate-row-lts.Need-element-set-from-t (cs t) (tabulate-row-at t) tabulate-row.Post inv μ
 tabulate-row-element-set-from-t t c = let a = c .before .before .before .before .before .before .before .before .before .args in
@@ -205,7 +189,7 @@ tabulate-row-add-t-2 t c = let a = c .before .before .before .before .before .be
     let pre = fill-pre s (a .left) (a .k) (a .t4) (l .t) (l .i) (l .inv) more in
     let w = first s (a .left) k (l .t) pre in
     let o = w .opened in
-    omega (arith, o .size, o .inside, pre .small, c .before .before .before .before .before .be16 .ensures .eq)
+    omega (arith, o .size, o .inside, pre .small, c .before .before .before .before .before .size-at .ensures .eq)
 
 tabulate-row-add-i : (t : ℕ) → tabulate-row-lts.Need-add-i (cs t) (tabulate-row-at t) tabulate-row.Post inv μ
 tabulate-row-add-i t c = omega (arith, c .before .before .before .before .before .before .loop-test .taken, c .before .before .before .before .before .before .before .before .before .fits .k)
@@ -223,12 +207,12 @@ tabulate-row-loop-again t c = let a = c .before .before .before .before .before 
     let w = first s (a .left) k (l .t) pre in
     let o = w .opened in
     let b = c .before .before .before .fields in
-    let es = c .before .before .before .before .before .be16 .ensures .eq in
+    let es = c .before .before .before .before .before .size-at .ensures .eq in
     let v = c .before .if1 .t in
-    let ev : v ≡ filled s (a .left - 1) (b .result .children) (turned s (a .left) k (l .t) pre w (c .before .before .before .before .before .be16 .result) es (b .result) (b .ensures)) =
+    let ev : v ≡ filled s (a .left - 1) (b .result .children) (turned s (a .left) k (l .t) pre w (c .before .before .before .before .before .size-at .result) es (b .result) (b .ensures ∙ ap (λ x. fieldsStep (fieldsAt (kindOf x) s (l .t .at) (l .t .at + c .before .before .before .before .before .size-at .result))) (c .before .before .before .before .code-at .ensures))) =
     ⊎-elim (λ u. u .2 ∙ u .1 .ensures)
-    (λ u. u .1 ∙ sym (ap (λ j. filled s (a .left - 1) j (turned s (a .left) k (l .t) pre w (c .before .before .before .before .before .be16 .result) es (b .result) (b .ensures))) (omega (arith, u .0 .left)) ∙ filled-none s (a .left - 1) (turned s (a .left) k (l .t) pre w (c .before .before .before .before .before .be16 .result) es (b .result) (b .ensures)))) (c .before .if1 .came) in
-    fill-more s (a .left) (a .k) (a .t4) (l .t) (l .i) (l .inv) more w _ (turn-done s (a .left) k (l .t) pre w (c .before .before .before .before .before .be16 .result) es (b .result) (b .ensures) v ev (c .row-at .result) (c .row-at .ensures))
+    (λ u. u .1 ∙ sym (ap (λ j. filled s (a .left - 1) j (turned s (a .left) k (l .t) pre w (c .before .before .before .before .before .size-at .result) es (b .result) (b .ensures ∙ ap (λ x. fieldsStep (fieldsAt (kindOf x) s (l .t .at) (l .t .at + c .before .before .before .before .before .size-at .result))) (c .before .before .before .before .code-at .ensures)))) (omega (arith, u .0 .left)) ∙ filled-none s (a .left - 1) (turned s (a .left) k (l .t) pre w (c .before .before .before .before .before .size-at .result) es (b .result) (b .ensures ∙ ap (λ x. fieldsStep (fieldsAt (kindOf x) s (l .t .at) (l .t .at + c .before .before .before .before .before .size-at .result))) (c .before .before .before .before .code-at .ensures))))) (c .before .if1 .came) in
+    fill-more s (a .left) (a .k) (a .t4) (l .t) (l .i) (l .inv) more w _ (turn-done s (a .left) k (l .t) pre w (c .before .before .before .before .before .size-at .result) es (b .result) (b .ensures ∙ ap (λ x. fieldsStep (fieldsAt (kindOf x) s (l .t .at) (l .t .at + c .before .before .before .before .before .size-at .result))) (c .before .before .before .before .code-at .ensures)) v ev (c .row-at .result) (c .row-at .ensures ∙ ap (λ x. rowRead s (depthLimit + 1 - a .left) (l .t .at) x (c .before .before .before .before .before .size-at .result) (b .result .count) (v .at)) (c .before .before .before .before .code-at .ensures)))
 
 tabulate-row-returns : (t : ℕ) → tabulate-row-lts.Need-returns (cs t) (tabulate-row-at t) tabulate-row.Post inv μ
 tabulate-row-returns t c = let a = c .before .before .before .args in
@@ -237,8 +221,10 @@ tabulate-row-returns t c = let a = c .before .before .before .args in
 
 pub +tabulate-row-spec : {M : Type 1} → statement M
 +tabulate-row-spec = close μ-tabulate-row λ t. tabulate-row-lts.spec (
-  be16-reads.Asked,
-  be16-reads.Learnt,
+  size-at-reads.Asked,
+  size-at-reads.Learnt,
+  code-at-reads.Asked,
+  code-at-reads.Learnt,
   fields-reads.Asked,
   fields-reads.Learnt,
   tabulate-row-below t,
@@ -251,9 +237,8 @@ pub +tabulate-row-spec : {M : Type 1} → statement M
     inv
     μ
     (tabulate-row-loop-holds t)
-    (tabulate-row-be16-requires t)
-    (tabulate-row-add-code t)
-    (tabulate-row-shared-slice-read-code t)
+    (tabulate-row-size-at-requires t)
+    (tabulate-row-code-at-requires t)
     (tabulate-row-add-fields t)
     (tabulate-row-fields-requires t)
     (tabulate-row-add-t t)
@@ -262,7 +247,7 @@ pub +tabulate-row-spec : {M : Type 1} → statement M
     (tabulate-row-add-row-at t)
     (tabulate-row-sub-row-at t)
     (tabulate-row-row-at-requires t)
-    (tabulate-row-mul-t22 t)
+    (tabulate-row-mul-t20 t)
     (tabulate-row-element-set-from-t t)
     (tabulate-row-add-t-2 t)
     (tabulate-row-add-i t)

@@ -1,0 +1,41 @@
+// Kerbcanopy's public entries, as C finds them: `include/kerbcanopy.h` declares each under the same name. Every entry takes any bytes,
+// asks nothing of its caller, and answers exactly what the definition that its contract cites says, refusals included.
+use canonical::Compared;
+use descriptor::answer::Answer;
+use descriptor::answer::Checked;
+ghost use mathlib.Core.Path.{_≡_};
+ghost use Rattle.descriptor.specs.Answers.{descriptorCheck};
+ghost use Rattle.canonical.specs.Equality.{comparison};
+ghost use Rattle.canonical.specs.Normal.{normalForm};
+
+// Reads any bytes as a descriptor. Accepted: number 0, input 0, the place is the row count, and the table has a row for each descriptor
+// in order of first byte, zero rows after them. Refused: the number 1 to 12 that comes first in document 01's order, input 1, the place
+// of the descriptor at fault (0 for 1, the top's size for 12), and a table of zero rows.
+#[no_mangle]
+pub extern "C" fn kc_check_descriptor(descriptor: &[u8]) -> Checked
+    ensures { λ r. ⌜ r ≡ descriptorCheck (now (descriptor .entry)) ⌝ }
+{
+    descriptor::check::check_descriptor(descriptor)
+}
+
+// Whether two descriptors are equal: the same tree, low codes, counts, items, pairs and names; "Only the reserved byte is ignored."
+// Accepted: number 0, input 0, place 0, and yes or no. Refused: 1 to 12, the place in the descriptor at fault, and no; input 1 where the
+// first is no descriptor, else input 2.
+#[no_mangle]
+pub extern "C" fn kc_compare(first: &[u8], second: &[u8]) -> Compared
+    ensures { λ r. ⌜ r ≡ comparison (now (first .entry)) (now (second .entry)) ⌝ }
+{
+    canonical::compare::compare(first, second)
+}
+
+// Writes the normal form of the descriptor, "the same descriptor with every reserved byte zero", to the front of `out`, and keeps the
+// bytes of `out` beyond it. Accepted: number 0, input 0, and the place is the length written, that of the descriptor. Refused: 1 to 12
+// with input 1 where it is no descriptor; else 50 with input 4 where `out` is shorter than it, the place being the length needed. A
+// refusal writes nothing.
+#[no_mangle]
+pub extern "C" fn kc_normal_form(descriptor: &[u8], out: &mut [u8]) -> Answer
+    ensures answer { λ r. ⌜ r ≡ normalForm (now (descriptor .entry)) (now (out .entry)) .answer ⌝ }
+    ensures wrote { λ _. ⌜ now (out .exit) ≡ normalForm (now (descriptor .entry)) (now (out .entry)) .out ⌝ }
+{
+    canonical::normal::normal_form(descriptor, out)
+}

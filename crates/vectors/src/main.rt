@@ -1,0 +1,25 @@
+// Runs the worked descriptors of document 01 that are not proved, and those of the source documents 002 and 004, through the public
+// entries. A line for each: its name; number, input and place; the rows, as (code start size depth count name_place name_length), the
+// code hexadecimal and the others decimal; and of its normal form, whether it has the same bytes and compares equal.
+mod numbers;
+mod show;
+mod sources;
+
+use show::show;
+
+// Document 01, "Checked by hand": the rows not marked P. The first stands in 002 and 004 too.
+fn hand_checked() {
+    show(
+        b"m/s, double (01, 002, 004)",
+        b"\x00\x0E\x00\x1A\x00\x02\x00\x02\xFF\xFF\x00\x03\x00\x01",
+    );
+    show(b"half a name (01)", b"\x00\x06\x00\x03\x02\x61");
+    show(b"empty name (01)", b"\x00\x06\x00\x03\x00\x00");
+}
+
+fn main() {
+    hand_checked();
+    numbers::numbers();
+    sources::nested();
+    sources::listed();
+}

@@ -1,0 +1,59 @@
+//! The C interface as the library's header declares it.
+
+/// Document 01's answer: the number (0 if accepted), the input at fault and a
+/// place whose meaning depends on the number and the question.
+#[repr(C)]
+#[derive(Clone, Copy, Debug, PartialEq, Eq)]
+pub struct Answer {
+    pub number: u32,
+    pub input: u32,
+    pub place: u32,
+}
+
+/// One descriptor of the table. Places count from the first lent byte; a name
+/// place of 0 means that there is no name.
+#[repr(C)]
+#[derive(Clone, Copy, Debug, PartialEq, Eq)]
+pub struct Row {
+    pub code: u16,
+    pub start: u16,
+    pub size: u16,
+    pub depth: u16,
+    pub count: u16,
+    pub name_place: u16,
+    pub name_length: u16,
+}
+
+/// What the descriptor check returns: the answer, and the table, which is all
+/// zero after a refusal.
+#[repr(C)]
+#[derive(Clone, Copy, Debug, PartialEq, Eq)]
+pub struct Checked {
+    pub answer: Answer,
+    pub rows: [Row; 256],
+}
+
+/// `kc_compared`. The truth value stays a number here, since any other byte
+/// than 0 or 1 in a Rust `bool` would be undefined.
+#[repr(C)]
+#[derive(Clone, Copy)]
+pub(crate) struct RawCompared {
+    pub(crate) answer: Answer,
+    pub(crate) equal: u8,
+}
+
+unsafe extern "C" {
+    pub(crate) fn kc_check_descriptor(descriptor: *const u8, descriptor_len: usize) -> Checked;
+    pub(crate) fn kc_compare(
+        first: *const u8,
+        first_len: usize,
+        second: *const u8,
+        second_len: usize,
+    ) -> RawCompared;
+    pub(crate) fn kc_normal_form(
+        descriptor: *const u8,
+        descriptor_len: usize,
+        out: *mut u8,
+        out_len: usize,
+    ) -> Answer;
+}

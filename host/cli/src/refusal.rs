@@ -1,0 +1,110 @@
+//! A refusal in plain words: the number, what it means, the input, the place
+//! and the bytes around it.
+
+use std::path::Path;
+
+use kerbcanopy::Answer;
+
+/// How many bytes are shown on either side of the place.
+const AROUND: usize = 8;
+
+/// The lines that say what was refused in the file.
+pub fn text(path: &Path, bytes: &[u8], answer: Answer) -> String {
+    format!(
+        "{}: refused with {}: {}\n  input {}, place {}: {}\n",
+        path.display(),
+        answer.number,
+        meaning(answer.number),
+        answer.input,
+        answer.place,
+        around(bytes, answer.place as usize),
+    )
+}
+
+fn meaning(number: u32) -> &'static str {
+    match number {
+        1 => "the descriptor has more than 4,096 bytes",
+        2 => "fewer than 4 bytes are left where a descriptor should start",
+        3 => "the size has its high bit set",
+        4 => "the size is odd, under 4, or runs past the end of what it stands in",
+        5 => "the code is none that is read here",
+        6 => "it stands nine levels deep, and eight are the most",
+        7 => "it would be type 257, and 256 are the most",
+        8 => "what the type needs is longer than its size allows",
+        9 => "a count is outside its limits",
+        10 => {
+            "a length or dimension is not FFFFFFFF, a unit's base is over 8, \
+             an enumeration's fill byte is not zero, or an array stands directly in an array"
+        }
+        11 => "what is left after the type is no name",
+        12 => "bytes follow the descriptor",
+        50 => "the output is too small",
+        _ => "a number that this command does not know",
+    }
+}
+
+/// The bytes around the place, the one there in brackets.
+fn around(bytes: &[u8], place: usize) -> String {
+    let place = place.min(bytes.len());
+    let start = place.saturating_sub(AROUND);
+    let end = bytes.len().min(place + 1 + AROUND);
+    let mut words = Vec::new();
+    if start > 0 {
+        words.push("..".to_string());
+    }
+    for (index, byte) in bytes[start..end].iter().enumerate() {
+        if start + index == place {
+            words.push(format!("[{byte:02X}]"));
+        } else {
+            words.push(format!("{byte:02X}"));
+        }
+    }
+    if place == bytes.len() {
+        words.push("[end]".to_string());
+    } else if end < bytes.len() {
+        words.push("..".to_string());
+    }
+    words.join(" ")
+}
+
+#[cfg(test)]
+mod tests {
+    use super::*;
+
+    #[test]
+    fn every_number_has_words_of_its_own() {
+        let numbers = (1..=12).chain([50]);
+        let mut meanings: Vec<_> = numbers.map(meaning).collect();
+        assert!(!meanings.contains(&meaning(0)));
+        meanings.sort();
+        meanings.dedup();
+        assert_eq!(meanings.len(), 13);
+    }
+
+    #[test]
+    fn the_place_is_marked() {
+        let bytes: Vec<u8> = (0..32).collect();
+        assert_eq!(around(&bytes[..4], 0), "[00] 01 02 03");
+        assert_eq!(around(&bytes[..4], 4), "00 01 02 03 [end]");
+        assert_eq!(around(&[], 0), "[end]");
+        assert_eq!(
+            around(&bytes, 16),
+            ".. 08 09 0A 0B 0C 0D 0E 0F [10] 11 12 13 14 15 16 17 18 .."
+        );
+        assert_eq!(around(&bytes, 31), ".. 17 18 19 1A 1B 1C 1D 1E [1F]");
+    }
+
+    #[test]
+    fn a_refusal_names_the_file_and_the_place() {
+        let answer = Answer {
+            number: 4,
+            input: 2,
+            place: 0,
+        };
+        let expected = "reader.hex: refused with 4: the size is odd, under 4, or runs past the end of what it stands in
+  input 2, place 0: [00] 05 00 03 00
+";
+        let bytes = [0, 5, 0, 3, 0];
+        assert_eq!(text(Path::new("reader.hex"), &bytes, answer), expected);
+    }
+}

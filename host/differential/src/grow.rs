@@ -1,0 +1,214 @@
+//! Trees at random: tame ones keep every rule and limit of document 01, wild
+//! ones break limits here and there.
+
+use crate::random::Random;
+use crate::tree::{Body, Tree};
+
+const PLAIN: [u8; 15] = [1, 2, 3, 4, 5, 6, 7, 8, 9, 0xA, 0xB, 0xC, 0xD, 0xE, 0x21];
+
+/// What a tree may still use up, and which rules it may break.
+struct Room {
+    rows: usize,
+    bytes: usize,
+    depth: usize,
+    /// Counts, base indexes and arrays in arrays may break their rules.
+    lawless: bool,
+    /// Few names and bodies, so that the rows run out before the bytes.
+    lean: bool,
+}
+
+impl Room {
+    /// Takes the bytes if they are there.
+    fn take(&mut self, bytes: usize) -> bool {
+        let enough = self.bytes >= bytes;
+        if enough {
+            self.bytes -= bytes;
+        }
+        enough
+    }
+
+    /// Whether a child fits beneath `depth` behind `bytes` of the parent's body.
+    fn holds_child(&self, depth: usize, bytes: usize) -> bool {
+        depth < self.depth && self.rows > 0 && self.bytes >= bytes + 4
+    }
+}
+
+/// A tree that must be accepted.
+pub fn tame(random: &mut Random) -> Tree {
+    let mut room = Room {
+        rows: random.pick(&[1, 2, 4, 4, 8, 8, 16, 40, 256]),
+        bytes: random.pick(&[16, 60, 60, 200, 200, 600, 4096]),
+        depth: 8,
+        lawless: false,
+        lean: random.once_in(2),
+    };
+    grow(random, 1, &mut room, false)
+}
+
+/// A tree that may have too many rows or bytes, or be too deep, or break rules
+/// inside its bodies.
+pub fn wild(random: &mut Random) -> Tree {
+    let (rows, bytes, depth, lawless) = match random.below(8) {
+        0 => (300, 4096, 8, false),
+        1 => (
+            random.between(250, 300),
+            random.between(3000, 5000),
+            10,
+            false,
+        ),
+        2..5 => (20, 300, 10, false),
+        _ => (random.pick(&[3, 8, 16, 40, 300]), 1000, 8, true),
+    };
+    let mut room = Room {
+        rows,
+        bytes,
+        depth,
+        lawless,
+        lean: random.once_in(2),
+    };
+    grow(random, 1, &mut room, false)
+}
+
+/// A row and a header's bytes must be left in the room.
+fn grow(random: &mut Random, depth: usize, room: &mut Room, in_array: bool) -> Tree {
+    room.rows -= 1;
+    room.bytes -= 4;
+    // With much room to fill, the top is a cluster.
+    let choices = match depth {
+        1 if room.rows > 30 => 7,
+        1 => 16,
+        _ if room.lean => 80,
+        _ => 24,
+    };
+    let body = match random.below(choices) {
+        0..7 if room.holds_child(depth, 2) => cluster(random, depth, room),
+        7..10 if (!in_array || room.lawless) && room.holds_child(depth, 18) => {
+            array(random, depth, room)
+        }
+        10..12 => enumeration(random, room),
+        12..14 => quantity(random, room),
+        14 if room.take(4) => Body::Text,
+        _ => Body::Plain(random.pick(&PLAIN)),
+    };
+    let named = !room.lean || random.once_in(6);
+    let name = name(random).filter(|name| named && room.take((name.len() + 2) & !1));
+    Tree { body, name }
+}
+
+fn cluster(random: &mut Random, depth: usize, room: &mut Room) -> Body {
+    room.bytes -= 2;
+    if room.lawless && random.once_in(40) {
+        return Body::Cluster(Vec::new());
+    }
+    let most = match depth {
+        1 if room.rows > 30 => 300,
+        _ => random.pick(&[1, 2, 3, 5, 9, 300]),
+    };
+    let mut members = vec![grow(random, depth + 1, room, false)];
+    while members.len() < most && room.holds_child(depth, 0) {
+        members.push(grow(random, depth + 1, room, false));
+    }
+    Body::Cluster(members)
+}
+
+fn array(random: &mut Random, depth: usize, room: &mut Room) -> Body {
+    let dimensions = match room.lawless && random.once_in(8) {
+        true => random.pick(&[0, 4, 5]),
+        false => random.between(1, 4),
+    };
+    room.bytes -= (2 + 4 * dimensions).min(18);
+    let element = grow(random, depth + 1, room, true);
+    Body::Array(dimensions as u16, Box::new(element))
+}
+
+/// An enumeration whose items fit, or a plain type where not even one does.
+fn enumeration(random: &mut Random, room: &mut Room) -> Body {
+    let code = random.pick(&[0x15, 0x16, 0x17]);
+    if room.lawless && random.once_in(20) {
+        return Body::Enumeration(code, Vec::new());
+    }
+    // 2 for the count, 1 for the first item's length, 1 for the fill byte.
+    if !room.take(4) {
+        return Body::Plain(random.pick(&PLAIN));
+    }
+    let mut items = vec![Vec::new()];
+    for _ in 0..random.pick(&[1, 1, 2, 3, 6, 30]) {
+        let item = characters(random);
+        if room.take(1 + item.len()) {
+            items.push(item);
+        }
+    }
+    if items.len() > 1 {
+        items.swap_remove(0);
+    }
+    Body::Enumeration(code, items)
+}
+
+fn quantity(random: &mut Random, room: &mut Room) -> Body {
+    let code = random.pick(&[0x19, 0x1A, 0x1B, 0x1C, 0x1D, 0x1E]);
+    let (least, most) = if room.lawless { (0, 10) } else { (1, 9) };
+    let count = random.between(least, most);
+    if !room.take(2 + 4 * count) {
+        return Body::Plain(random.pick(&PLAIN));
+    }
+    let stray = room.lawless && random.once_in(6);
+    let pair = |_| {
+        let base = random.below(if stray { 10 } else { 9 });
+        [base as u16, random.next() as u16]
+    };
+    Body::Quantity(code, (0..count).map(pair).collect())
+}
+
+/// A name: none, empty, odd, even, or as long as one can be.
+pub fn name(random: &mut Random) -> Option<Vec<u8>> {
+    match random.below(8) {
+        0..4 => None,
+        4 => Some(Vec::new()),
+        _ => Some(characters(random)),
+    }
+}
+
+fn characters(random: &mut Random) -> Vec<u8> {
+    let length = match random.below(40) {
+        0 => 255,
+        1 => 254,
+        2 => random.below(256),
+        3..6 => 0,
+        _ => random.between(1, 9),
+    };
+    match random.once_in(3) {
+        true => random.bytes(length),
+        false => (0..length).map(|_| b'a' + random.below(26) as u8).collect(),
+    }
+}
+
+/// A copy in which one thing that counts for equality may differ.
+pub fn twin(random: &mut Random, tree: &Tree) -> Tree {
+    let mut twin = tree.clone();
+    alter(random, &mut twin);
+    twin
+}
+
+fn alter(random: &mut Random, tree: &mut Tree) {
+    let deeper = !random.once_in(4);
+    match &mut tree.body {
+        Body::Cluster(members) if deeper => {
+            let member = random.below(members.len());
+            alter(random, &mut members[member]);
+        }
+        Body::Array(_, element) if deeper => alter(random, element),
+        Body::Enumeration(_, items) if deeper => {
+            let item = random.below(items.len());
+            match items[item].last_mut() {
+                Some(last) => *last ^= 1,
+                None => items[item] = vec![0],
+            }
+        }
+        Body::Quantity(_, pairs) if deeper => {
+            let pair = random.below(pairs.len());
+            pairs[pair][1] ^= 0x8000;
+        }
+        Body::Plain(code) if deeper => *code = random.pick(&PLAIN),
+        _ => tree.name = name(random),
+    }
+}

@@ -1,0 +1,278 @@
+//! Holds the proved library against the second implementation over one case:
+//! every question, every answer, every byte that may or may not be written.
+
+use reference::{Answer, MOST_ROWS};
+
+use crate::case::{Case, Partner};
+use crate::lent::{Around, Lent};
+use crate::random::Random;
+use crate::tally::Tally;
+
+/// Two results that should be the same, and the inputs that led to them.
+pub struct Difference {
+    pub question: String,
+    pub proved: String,
+    pub other: String,
+    pub inputs: Vec<Vec<u8>>,
+}
+
+type Held<T> = Result<T, Difference>;
+
+/// One case being held, and what stands around its buffers.
+struct Hold<'a> {
+    case: &'a Case,
+    around: Around,
+    tally: &'a mut Tally,
+}
+
+/// Asks both every question about the case. Returns the first difference.
+pub fn hold(case: &Case, random: &mut Random, exact: bool, tally: &mut Tally) -> Held<()> {
+    let around = Around::new(random, exact);
+    let mut hold = Hold {
+        case,
+        around,
+        tally,
+    };
+    let checked = hold.check()?;
+    hold.normal_forms(&checked, random)?;
+    for partner in relatives(case, &checked, random) {
+        hold.compare(&partner)?;
+    }
+    for partner in &case.partners {
+        hold.compare(partner)?;
+    }
+    Ok(())
+}
+
+/// The library's answer as the second implementation writes it.
+fn plain(answer: kerbcanopy::Answer) -> Answer {
+    Answer {
+        number: answer.number,
+        input: answer.input,
+        place: answer.place,
+    }
+}
+
+impl Hold<'_> {
+    /// A difference unless `same`; the texts are made only when needed.
+    fn demand(
+        &self,
+        same: bool,
+        question: &str,
+        texts: impl FnOnce() -> [String; 2],
+        second: Option<&[u8]>,
+    ) -> Held<()> {
+        if same {
+            return Ok(());
+        }
+        let [proved, other] = texts();
+        let second = second.map(<[u8]>::to_vec);
+        Err(Difference {
+            question: question.to_string(),
+            proved,
+            other,
+            inputs: [self.case.bytes.clone()]
+                .into_iter()
+                .chain(second)
+                .collect(),
+        })
+    }
+
+    fn demand_guarded(&self, untouched: bool, question: &str) -> Held<()> {
+        let texts = || ["lent or guard bytes changed".into(), "none may".into()];
+        self.demand(untouched, question, texts, None)
+    }
+
+    /// The check, twice with other bytes around, and against the statement.
+    fn check(&mut self) -> Held<reference::Checked> {
+        let checked = reference::check_descriptor(&self.case.bytes);
+        let here = Lent::new(&self.case.bytes, &self.case.beyond, self.around);
+        let there = Lent::new(&self.case.bytes, &[], self.around.other());
+        for lent in [here, there] {
+            let proved = kerbcanopy::check_descriptor(lent.bytes());
+            let same = same_table(&proved, &checked);
+            let texts = || [proved_text(&proved), checked_text(&checked)];
+            self.demand(same, "check_descriptor", texts, None)?;
+            self.demand_guarded(lent.untouched(), "check_descriptor")?;
+        }
+        self.check_statement(&checked)?;
+        self.tally.checked(self.case.kind, checked.answer);
+        Ok(checked)
+    }
+
+    /// Both agree; here they are held against what the generator says.
+    fn check_statement(&self, checked: &reference::Checked) -> Held<()> {
+        let question = "check_descriptor against the generator";
+        if let Some(stated) = self.case.stated.answer {
+            let texts = || [format!("{:?}", checked.answer), format!("{stated:?}")];
+            self.demand(checked.answer == stated, question, texts, None)?;
+        }
+        let Some(stated) = &self.case.stated.rows else {
+            return Ok(());
+        };
+        for (index, row) in checked.rows.iter().enumerate() {
+            let row = words(row);
+            let stated = stated.get(index).copied().unwrap_or_default();
+            let texts = || [format!("{index}: {row:?}"), format!("{index}: {stated:?}")];
+            self.demand(row == stated, question, texts, None)?;
+        }
+        Ok(())
+    }
+
+    /// The normal form into rooms of every interesting length.
+    fn normal_forms(&mut self, checked: &reference::Checked, random: &mut Random) -> Held<()> {
+        let needed = self.case.bytes.len();
+        let large = needed + random.between(2, 5000);
+        let rooms = [needed, needed.saturating_sub(1), needed + 1, 0, large];
+        let lent = Lent::new(&self.case.bytes, &self.case.beyond, self.around);
+        for room in rooms {
+            let fill = random.byte();
+            self.normal_form(&lent, room, fill, checked)?;
+        }
+        self.demand_guarded(lent.untouched(), "normal_form's input")
+    }
+
+    fn normal_form(
+        &mut self,
+        lent: &Lent,
+        room: usize,
+        fill: u8,
+        checked: &reference::Checked,
+    ) -> Held<()> {
+        let question = format!("normal_form, room {room}");
+        let mut proved = Lent::room(room, fill, self.around);
+        let mut other = Lent::room(room, fill, self.around);
+        let proved_answer = plain(kerbcanopy::normal_form(lent.bytes(), proved.bytes_mut()));
+        let answer = reference::normal_form(&self.case.bytes, other.bytes_mut());
+        let texts = || [format!("{proved_answer:?}"), format!("{answer:?}")];
+        self.demand(proved_answer == answer, &question, texts, None)?;
+        let texts = || [hex(proved.bytes()), hex(other.bytes())];
+        self.demand(proved.bytes() == other.bytes(), &question, texts, None)?;
+        let written = if answer.number == 0 {
+            self.case.bytes.len()
+        } else {
+            0
+        };
+        self.demand_guarded(proved.untouched_beyond(written), &question)?;
+        if answer.number == 0 {
+            let expected = without_reserved(&self.case.bytes, checked);
+            let stated = self.case.stated.normal_form.as_ref().unwrap_or(&expected);
+            let texts = || [hex(&proved.bytes()[..written]), hex(stated)];
+            self.demand(
+                proved.bytes()[..written] == **stated,
+                &question,
+                texts,
+                None,
+            )?;
+        }
+        self.tally.normal_form(answer);
+        Ok(())
+    }
+
+    /// The case and its partner compared in both orders.
+    fn compare(&mut self, partner: &Partner) -> Held<()> {
+        let case = Lent::new(&self.case.bytes, &self.case.beyond, self.around);
+        let other = Lent::new(&partner.bytes, &self.case.beyond, self.around.other());
+        for (first, second) in [(&case, &other), (&other, &case)] {
+            let proved = kerbcanopy::compare(first.bytes(), second.bytes());
+            let proved = reference::Compared {
+                answer: plain(proved.answer),
+                equal: proved.equal,
+            };
+            let compared = reference::compare(first.bytes(), second.bytes());
+            let texts = || [format!("{proved:?}"), format!("{compared:?}")];
+            let second = Some(other.bytes());
+            self.demand(proved == compared, "compare", texts, second)?;
+            let stated = partner.equal.unwrap_or(compared.equal);
+            let texts = || [format!("{proved:?}"), format!("equal: {stated}")];
+            let question = "compare against the generator";
+            self.demand(compared.equal == stated, question, texts, second)?;
+            self.tally.compared(&compared);
+        }
+        self.demand_guarded(case.untouched() && other.untouched(), "compare")
+    }
+}
+
+/// The case itself, its normal form and a copy with other reserved bytes; all
+/// three are equal to it exactly when it is accepted.
+fn relatives(case: &Case, checked: &reference::Checked, random: &mut Random) -> [Partner; 3] {
+    let accepted = checked.answer.number == 0;
+    let mut other = case.bytes.clone();
+    let rows = if accepted {
+        checked.answer.place as usize
+    } else {
+        1
+    };
+    for row in &checked.rows[..rows] {
+        if let Some(reserved) = other.get_mut(usize::from(row.start) + 2) {
+            *reserved = random.byte();
+        }
+    }
+    let normal = without_reserved(&case.bytes, checked);
+    [case.bytes.clone(), normal, other].map(|bytes| Partner {
+        bytes,
+        equal: Some(accepted),
+    })
+}
+
+/// A copy with the reserved bytes of the table's rows set to zero.
+fn without_reserved(bytes: &[u8], checked: &reference::Checked) -> Vec<u8> {
+    let mut normal = bytes.to_vec();
+    for row in checked.rows.iter().filter(|row| row.size > 0) {
+        normal[usize::from(row.start) + 2] = 0;
+    }
+    normal
+}
+
+fn words(row: &reference::Row) -> [u16; 7] {
+    let [place, length] = [row.name_place, row.name_length];
+    [
+        row.code, row.start, row.size, row.depth, row.count, place, length,
+    ]
+}
+
+fn proved_words(row: &kerbcanopy::Row) -> [u16; 7] {
+    let [place, length] = [row.name_place, row.name_length];
+    [
+        row.code, row.start, row.size, row.depth, row.count, place, length,
+    ]
+}
+
+fn same_table(proved: &kerbcanopy::Checked, checked: &reference::Checked) -> bool {
+    let mut rows = proved.rows.iter().zip(&checked.rows);
+    plain(proved.answer) == checked.answer
+        && rows.all(|(one, other)| proved_words(one) == words(other))
+}
+
+fn proved_text(proved: &kerbcanopy::Checked) -> String {
+    table_text(plain(proved.answer), proved.rows.iter().map(proved_words))
+}
+
+fn checked_text(checked: &reference::Checked) -> String {
+    table_text(checked.answer, checked.rows.iter().map(words))
+}
+
+/// The answer and every row that is not zero.
+fn table_text(answer: Answer, rows: impl Iterator<Item = [u16; 7]>) -> String {
+    let mut text = format!("{answer:?}");
+    for (index, row) in rows.enumerate().take(MOST_ROWS) {
+        if row != [0; 7] {
+            text += &format!("\n    row {index}: {row:?}");
+        }
+    }
+    text
+}
+
+/// Bytes in groups of two, sixteen to a line.
+pub fn hex(bytes: &[u8]) -> String {
+    let mut text = format!("{} bytes", bytes.len());
+    for (index, byte) in bytes.iter().enumerate() {
+        text += match index % 16 {
+            0 => "\n    ",
+            2 | 4 | 6 | 8 | 10 | 12 | 14 => " ",
+            _ => "",
+        };
+        text += &format!("{byte:02X}");
+    }
+    text
+}

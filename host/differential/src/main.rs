@@ -1,0 +1,81 @@
+//! Holds the proved library against the second implementation. Without
+//! arguments it is the gate run: fixed seeds, then a fresh one.
+#![forbid(unsafe_code)]
+
+mod case;
+mod damage;
+mod grow;
+mod hold;
+mod lent;
+mod limits;
+mod options;
+mod random;
+mod tally;
+mod tree;
+
+use std::process::ExitCode;
+
+use crate::hold::{Difference, hex};
+use crate::limits::Limit;
+use crate::options::Options;
+use crate::random::Random;
+use crate::tally::Tally;
+
+fn main() -> ExitCode {
+    let options = match Options::read(std::env::args().skip(1)) {
+        Ok(options) => options,
+        Err(message) => {
+            eprintln!("{message}\n{}", options::USAGE);
+            return ExitCode::from(2);
+        }
+    };
+    let limits = limits::all();
+    let mut tally = Tally::default();
+    for &seed in &options.seeds {
+        println!("seed {seed}");
+        for number in options.cases.clone() {
+            if let Err(difference) = run(seed, number, &limits, options.exact, &mut tally) {
+                print_difference(seed, number, &difference);
+                println!("{} passed, 1 failed", tally.cases);
+                return ExitCode::FAILURE;
+            }
+        }
+    }
+    tally.print();
+    let never_met = tally.never_met();
+    if options.gate && !never_met.is_empty() {
+        println!("never met: {never_met:?}");
+        println!("{} passed, {} failed", tally.cases, never_met.len());
+        return ExitCode::FAILURE;
+    }
+    println!("{} passed, 0 failed", tally.cases);
+    ExitCode::SUCCESS
+}
+
+/// Makes one case and holds the two against each other over it.
+fn run(
+    seed: u64,
+    number: u64,
+    limits: &[Limit],
+    exact: bool,
+    tally: &mut Tally,
+) -> Result<(), Difference> {
+    let mut random = Random::for_case(seed, number);
+    let case = case::make(&mut random, number, limits);
+    let held = hold::hold(&case, &mut random, exact, tally);
+    match held {
+        Ok(()) => tally.cases += 1,
+        Err(_) => println!("case: {}", case.what),
+    }
+    held
+}
+
+fn print_difference(seed: u64, number: u64, difference: &Difference) {
+    println!("difference in {}", difference.question);
+    println!("again with: --seed {seed} --case {number}");
+    for (input, bytes) in difference.inputs.iter().enumerate() {
+        println!("  input {}: {}", input + 1, hex(bytes));
+    }
+    println!("  kerbcanopy: {}", difference.proved);
+    println!("  expected:   {}", difference.other);
+}
