@@ -7,23 +7,23 @@ use native.Mathlib.Omega.{arith}
 use borrow.Author.Tests.{le-leb, lt-leb}
 use lib.ListN.{length, getD, take, drop}
 use Rattle.descriptor.specs.Limits.{descriptorLimit}
-use Rattle.descriptor.specs.Tree.{rowCount}
+use Rattle.descriptor.specs.Tree.{Tree, rowCount}
 use Rattle.descriptor.specs.Encoding.{encode}
-use Rattle.descriptor.specs.Outcome.{refused}
+use Rattle.descriptor.specs.Outcome.{Outcome, refused, read, judge}
 use Rattle.descriptor.specs.Check.{checked}
 use Rattle.descriptor.specs.Answers.{accepted}
 use Rattle.descriptor.specs.Output.{unwritten, writtenTo}
-use Rattle.descriptor.specs.Standing.{standingRow, forestOf}
+use Rattle.descriptor.specs.Standing.{standingRow, isRead, forestOf}
 use Rattle.descriptor.specs.Steps.{counted}
 use Rattle.descriptor.specs.declared.step.Step.{Step}
-use Rattle.descriptor.proofs.Steps.{got}
+use Rattle.descriptor.proofs.Steps.{got, impossible}
 use Rattle.descriptor.proofs.Standing.{accepted-standing}
-use Rattle.canonical.specs.Equality.{sameTree, notCompared, comparison}
+use Rattle.canonical.specs.Equality.{sameTree, notCompared, bothCompared, comparison}
 use Rattle.canonical.specs.Normal.{normalForm}
 use Rattle.canonical.specs.Walk.{Accepted, sameWithin, clearForest}
 use Rattle.canonical.specs.declared.Compared.{Compared}
-use Rattle.canonical.proofs.Lists.{bytes-of}
-use Rattle.canonical.proofs.Whole.{differ-long, same-long, normal-length, normal-cleared}
+use Rattle.canonical.proofs.Lists.{bytes-of, bool-same}
+use Rattle.canonical.proofs.Whole.{walk-accepts, differ-long, same-long, normal-length, normal-cleared}
 
 -- what the check of s came to: a tree
 pub judged-accepted : (s : List ℕ) (r : Step) → r ≡ counted rowCount (checked s) → r .ok ≡ true → Accepted s
@@ -45,30 +45,55 @@ module _ (a b : List ℕ) where
   unfolding comparison
   second-refused number place first e = rw (first .eq, e) refl
 
-  -- where neither is
-  module _ (first : Accepted a) (second : Accepted b) where
-    both : comparison a b ≡ record { answer = accepted 0; equal = sameTree (first .tree) (second .tree) }
-    unfolding comparison
-    both = rw (first .eq, second .eq) refl
+  -- where the first is accepted
+  module _ (first : Accepted a) where
+    -- the answer, by what the check of the second came to
+    abbrev answer : Outcome Tree → Compared
+    answer o = judge notCompared 2 o (λ u. bothCompared (sameTree (first .tree) u))
 
-    pub both-accepted : (equal : Bool) → equal ≡ comparison a b .equal → record { answer = accepted 0; equal = equal } ≡ comparison a b
-    both-accepted equal e =
-        let same : equal ≡ sameTree (first .tree) (second .tree) = e ∙ ap (λ (x : Compared). x .equal) both in
-        (λ i. record { answer = accepted 0; equal = same i }) ∙ sym both
+    answers : comparison a b ≡ answer (checked b)
+    unfolding comparison
+    answers = rw (first .eq) refl
+
+    -- a yes is the whole answer
+    yes-whole : (o : Outcome Tree) → answer o .equal ≡ true → bothCompared true ≡ answer o
+    yes-whole (refused number place) e = impossible e
+    yes-whole (read q u) e = (λ i. bothCompared (sym e i))
+
+    pub same-compared : true ≡ comparison a b .equal → bothCompared true ≡ comparison a b
+    same-compared e = yes-whole (checked b) (ap (λ (x : Compared). x .equal) (sym answers) ∙ sym e) ∙ sym answers
+
+    -- and so is a no, where the second is accepted
+    pub differ-compared : Accepted b → false ≡ comparison a b .equal → bothCompared false ≡ comparison a b
+    unfolding comparison
+    differ-compared second e =
+        let both : comparison a b ≡ bothCompared (sameTree (first .tree) (second .tree)) = rw (first .eq, second .eq) refl in
+        (λ i. bothCompared ((e ∙ ap (λ (x : Compared). x .equal) both) i)) ∙ sym both
+
+    -- a test says yes or no where it compares accepted descriptors rightly, and holds for no other
+    decides : (o : Outcome Tree) (w : Bool) → ((q : ℕ) (u : Tree) → o ≡ read q u → w ≡ sameTree (first .tree) u) → (w ≡ true → isRead o ≡ true)
+        → w ≡ answer o .equal
+    unfolding isRead
+    decides (refused number place) w same holds = bool-same w false holds (λ e. impossible e)
+    decides (read q u) w same holds = same q u refl
 
     module _ (bytesA : (n : ℕ) → getD a n 0 < 256) (bytesB : (n : ℕ) → getD b n 0 < 256) where
-      -- descriptors of two lengths are not equal
+      -- bytes of two lengths are not equal descriptors
       pub lengths-differ : (length a ≡ length b → ⊥) → false ≡ comparison a b .equal
       lengths-differ h =
-          sym
-          (ap (λ (x : Compared). x .equal) both
-          ∙ differ-long a b (bytes-of a bytesA) (bytes-of b bytesB) (first .at) (second .at) (first .tree) (second .tree) (first .eq) (second .eq) h)
+          decides (checked b) false
+          (λ q u e. sym (differ-long a b (bytes-of a bytesA) (bytes-of b bytesB) (first .at) q (first .tree) u (first .eq) e h))
+          (λ e. impossible e)
+          ∙ sym (ap (λ (x : Compared). x .equal) answers)
 
       -- and of one length, the walk decides
       pub walk-decides : length a ≡ length b → sameWithin a b 1 0 (length a) ≡ comparison a b .equal
+      unfolding isRead
       walk-decides h =
-          same-long a b (bytes-of a bytesA) (bytes-of b bytesB) (first .at) (second .at) (first .tree) (second .tree) (first .eq) (second .eq) h
-          ∙ sym (ap (λ (x : Compared). x .equal) both)
+          decides (checked b) (sameWithin a b 1 0 (length a))
+          (λ q u e. same-long a b (bytes-of a bytesA) (bytes-of b bytesB) (first .at) q (first .tree) u (first .eq) e h)
+          (λ e. ap isRead (walk-accepts a b (bytes-of a bytesA) (first .at) (first .tree) (first .eq) h e))
+          ∙ sym (ap (λ (x : Compared). x .equal) answers)
 
 -- the normal form of d, and the output
 module _ (d out : List ℕ) where

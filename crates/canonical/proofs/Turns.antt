@@ -138,13 +138,13 @@ pub record Taken (s : List ℕ) (j p stop left size : ℕ) (f : Step) : Type 0 w
   pub inside : RowInside s (f .children) (f .next) (p + size) (left - 1)
   pub rest : RowInside s j (p + size) stop left
 
-pub taken : (s : List ℕ) (j p stop left size : ℕ) (f : Step) → Turn s j p stop left → size ≡ be s p 2
-    → f ≡ fieldsStep (fieldsAt (kindOf (getD s (p + 3) 0)) s p (p + size)) → Taken s j p stop left size f
-taken s j p stop left size f turn es ef =
+pub taken : (s : List ℕ) (j p stop left size code : ℕ) (f : Step) → Turn s j p stop left → size ≡ be s p 2 → code ≡ getD s (p + 3) 0
+    → f ≡ fieldsStep (fieldsAt (kindOf code) s p (p + size)) → Taken s j p stop left size f
+taken s j p stop left size code f turn es ec ef =
     let ends : p + be s p 2 ≡ p + size = omega arith in
     let at : ℕ = p + 4 + fieldsSize (turn .body) in
     let is : f ≡ readStep at (countOf (turn .body)) (childCount (turn .body)) =
-    ef ∙ ap (λ (k : ℕ). fieldsStep (fieldsAt (kindOf (getD s (p + 3) 0)) s p k)) (sym ends) ∙ turn .step in
+    ef ∙ (λ i. fieldsStep (fieldsAt (kindOf (ec i)) s p (sym ends i))) ∙ turn .step in
     let next : f .next ≡ at = ap (λ (x : Step). x .next) is in
     let children : f .children ≡ childCount (turn .body) = ap (λ (x : Step). x .children) is in
     record {

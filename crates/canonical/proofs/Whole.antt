@@ -14,10 +14,11 @@ use Rattle.descriptor.specs.Outcome.{read}
 use Rattle.descriptor.specs.Check.{membersAt, checked}
 use Rattle.descriptor.specs.Standing.{standing, standingRow, nextOf, forestOf}
 use Rattle.descriptor.proofs.Standing.{standing-ends, standing-low, accepted-standing}
+use Rattle.descriptor.proofs.Steps.{impossible}
 use Rattle.encoding.proofs.Slices.{slice-all}
 use Rattle.encoding.proofs.Lengths.{tree-length}
 use Rattle.encoding.proofs.Sound.{reservedIn, read-sound}
-use Rattle.encoding.proofs.Accepted.{accepted-spells, one-tree}
+use Rattle.encoding.proofs.Accepted.{accepted-spells, spells-accepted}
 use Rattle.canonical.specs.Equality.{sameChars, sameTree}
 use Rattle.canonical.specs.Walk.{RowInside, respelled, sameWithin, clearForest}
 use Rattle.canonical.proofs.Same.{chars-same, chars-refl, same-tree, same-refl}
@@ -56,6 +57,27 @@ module _ (s : List ℕ) (q : ℕ) (t : Tree) (e : checked s ≡ read q t) where
       let sound = read-sound s bytes depthLimit false (length s) 0 0 q t (omega arith) (a .0) in
       sym (slice-all s q (sym (a .1 .0))) ∙ sound .bytes
 
+-- an accepted descriptor a, and other bytes b that are as long
+module _ (a b : List ℕ) (bytesA : Bytes a) (q : ℕ) (t : Tree) (e : checked a ≡ read q t) (long : length a ≡ length b) where
+  -- the walk compares b with a's tree in b's reserved bytes
+  walked : sameWithin a b 1 0 (length a) ≡ sameChars b (encodeWith (reservedIn b) 0 t)
+  unfolding sameWithin respelled forestWith nextOf forestOf
+  walked =
+      let row = top-row a q t e in
+      let whole : slice 0 (length a) b ≡ b = slice-all b (length a) (sym long) in
+      let spelled : respelled a b 1 0 (length a) ≡ encodeWith (reservedIn b) 0 t =
+      (λ i. forestWith (reservedIn b) 0 (forestOf (row i)) ++ slice (nextOf (row i)) (length a) a)
+      ∙ ap (λ (l : List ℕ). (encodeWith (reservedIn b) 0 t ++ []) ++ l) (slice-empty (length a) a)
+      ∙ append-nil (encodeWith (reservedIn b) 0 t ++ [])
+      ∙ append-nil (encodeWith (reservedIn b) 0 t) in
+      (λ i. sameChars (whole i) (spelled i))
+
+  -- and where they are the same, b spells a's tree, and so is accepted as that tree
+  pub walk-accepts : sameWithin a b 1 0 (length a) ≡ true → checked b ≡ read (length b) t
+  walk-accepts same =
+      let spelled : b ≡ encodeWith (reservedIn b) 0 t = chars-same b (encodeWith (reservedIn b) 0 t) (sym walked ∙ same) in
+      spells-accepted b t (accepted-spells a bytesA t q e .1 .0) (record { reserved = reservedIn b; bytes = spelled })
+
 -- two accepted descriptors
 module _ (a b : List ℕ) (bytesA : Bytes a) (bytesB : Bytes b) (qa qb : ℕ) (t u : Tree) (ea : checked a ≡ read qa t) (eb : checked b ≡ read qb u) where
   -- that compare equal have one tree
@@ -70,34 +92,19 @@ module _ (a b : List ℕ) (bytesA : Bytes a) (bytesB : Bytes b) (qa qb : ℕ) (t
   differ-long h =
       bool-same (sameTree t u) false
       (λ e. absurd (h (top-size a qa t ea ∙ ap treeSize (one e) ∙ sym (top-size b qb u eb))))
-      (λ e. absurd (let z : _≡_ {A = ℕ} 0 1 = cc in omega arith))
+      (λ e. impossible e)
 
-  -- the walk compares b with a's tree in b's reserved bytes
-  walked : length a ≡ length b → sameWithin a b 1 0 (length a) ≡ sameChars b (encodeWith (reservedIn b) 0 t)
-  unfolding sameWithin respelled forestWith nextOf forestOf
-  walked long =
-      let row = top-row a qa t ea in
-      let whole : slice 0 (length a) b ≡ b = slice-all b (length a) (sym long) in
-      let spelled : respelled a b 1 0 (length a) ≡ encodeWith (reservedIn b) 0 t =
-      (λ i. forestWith (reservedIn b) 0 (forestOf (row i)) ++ slice (nextOf (row i)) (length a) a)
-      ∙ ap (λ (l : List ℕ). (encodeWith (reservedIn b) 0 t ++ []) ++ l) (slice-empty (length a) a)
-      ∙ append-nil (encodeWith (reservedIn b) 0 t ++ [])
-      ∙ append-nil (encodeWith (reservedIn b) 0 t) in
-      (λ i. sameChars (whole i) (spelled i))
-
-  -- which decides whether they are equal
+  -- of one length, the walk decides whether they are equal
   pub same-long : length a ≡ length b → sameWithin a b 1 0 (length a) ≡ sameTree t u
   same-long long =
-      let wt = accepted-spells a bytesA t qa ea in
-      let wu = accepted-spells b bytesB u qb eb in
-      walked long
-      ∙ bool-same (sameChars b (encodeWith (reservedIn b) 0 t)) (sameTree t u)
+      bool-same (sameWithin a b 1 0 (length a)) (sameTree t u)
       (λ e.
-      let same : t ≡ u =
-      one-tree b t u (wt .1 .0) (wu .1 .0) (record { reserved = reservedIn b; bytes = chars-same b (encodeWith (reservedIn b) 0 t) e }) (wu .0) in
+      let eq = walk-accepts a b bytesA qa t ea long e in
+      let same : t ≡ u = cc in
       ap (λ (x : Tree). sameTree t x) (sym same) ∙ same-refl t)
       (λ e.
-      ap (λ (x : Tree). sameChars b (encodeWith (reservedIn b) 0 x)) (one e)
+      walked a b bytesA qa t ea long
+      ∙ ap (λ (x : Tree). sameChars b (encodeWith (reservedIn b) 0 x)) (one e)
       ∙ ap (λ (l : List ℕ). sameChars b l) (sym (top-bytes b qb u eb bytesB))
       ∙ chars-refl b)
 

@@ -68,6 +68,10 @@ unfoldable mutual
 abbrev pub notCompared : ℕ → ℕ → ℕ → Compared
 notCompared number input place = record { answer = refusal number input place; equal = false }
 
+-- the answer for two descriptors: "yes or no", and the place is 0
+abbrev pub bothCompared : Bool → Compared
+bothCompared equal = record { answer = accepted 0; equal = equal }
+
 -- what `compare` answers for the descriptors a and b: the first is judged before the second; accepted, the place is 0
 unfoldable pub comparison : List ℕ → List ℕ → Compared
 comparison a b =

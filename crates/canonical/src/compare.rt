@@ -2,14 +2,15 @@
 use super::Compared;
 use descriptor::answer::answered;
 use descriptor::fields::fields;
+use descriptor::header::code_at;
+use descriptor::header::size_at;
 use descriptor::limits::DEPTH_LIMIT;
 use descriptor::validate::validate;
-use number::endian::be16;
 ghost use mathlib.Core.Path.{_≡_};
 ghost use Prim.Native.Nat.{_≤_};
 ghost use lib.ListN.{length};
 ghost use Rattle.descriptor.specs.Limits.{descriptorLimit};
-ghost use Rattle.canonical.specs.Equality.{notCompared, comparison};
+ghost use Rattle.canonical.specs.Equality.{notCompared, bothCompared, comparison};
 ghost use Rattle.canonical.specs.Walk.{Both, RowInside, Accepted, sameRun, sameWithin};
 
 // Whether a and b hold the same bytes from `from` up to `to`.
@@ -37,12 +38,12 @@ fn same_within(a: &[u8], b: &[u8], k: usize, start: usize, stop: usize, left: us
     let mut p = start;
     let mut i = 0;
     while i < k {
-        let size = be16(a, p);
+        let size = size_at(a, p);
         let end = p + size;
         if !same_run(a, b, p, p + 2) {
             return false;
         }
-        let f = fields(a, a[p + 3], p, end);
+        let f = fields(a, code_at(a, p), p, end);
         let next = f.next;
         let children = f.children;
         if !same_run(a, b, p + 3, next) {
@@ -63,10 +64,10 @@ fn same_within(a: &[u8], b: &[u8], k: usize, start: usize, stop: usize, left: us
     same_run(a, b, p, stop)
 }
 
-// Whether the accepted descriptors a and b are equal: as long as each other, and the same but for the reserved bytes of a.
-fn same_accepted(a: &[u8], b: &[u8]) -> bool
+// Whether b is a descriptor equal to the accepted descriptor a: as long as a, and the same but for the reserved bytes of a. Nothing is
+// asked of b: bytes that are so are a descriptor with a's tree.
+fn same_as_accepted(a: &[u8], b: &[u8]) -> bool
     requires { ⌜ Accepted (now a) ⌝ }
-    requires { ⌜ Accepted (now b) ⌝ }
     ensures { λ r. ⌜ r ≡ comparison (now (a .entry)) (now (b .entry)) .equal ⌝ }
 {
     if a.len() != b.len() {
@@ -87,7 +88,16 @@ fn not_compared(number: u32, input: u32, place: usize) -> Compared
     }
 }
 
-// Whether two descriptors are equal. A refusal names the first of the two that is no descriptor, and says no.
+// The answer for two descriptors.
+fn both_compared(equal: bool) -> Compared
+    ensures { λ r. ⌜ r ≡ bothCompared equal ⌝ }
+{
+    let answer = answered(0, 0, 0);
+    Compared { answer, equal }
+}
+
+// Whether two descriptors are equal. A refusal names the first of the two that is no descriptor, and says no. The second is checked only
+// where it is not equal to the first.
 pub fn compare(first: &[u8], second: &[u8]) -> Compared
     ensures { λ r. ⌜ r ≡ comparison (now (first .entry)) (now (second .entry)) ⌝ }
 {
@@ -95,11 +105,12 @@ pub fn compare(first: &[u8], second: &[u8]) -> Compared
     if !v.ok {
         return not_compared(v.number, 1, v.place);
     }
+    if same_as_accepted(first, second) {
+        return both_compared(true);
+    }
     let w = validate(second);
     if !w.ok {
         return not_compared(w.number, 2, w.place);
     }
-    let equal = same_accepted(first, second);
-    let answer = answered(0, 0, 0);
-    Compared { answer, equal }
+    both_compared(false)
 }

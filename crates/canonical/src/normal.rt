@@ -2,9 +2,10 @@
 use descriptor::answer::Answer;
 use descriptor::answer::answered;
 use descriptor::fields::fields;
+use descriptor::header::code_at;
+use descriptor::header::size_at;
 use descriptor::limits::DEPTH_LIMIT;
 use descriptor::validate::validate;
-use number::endian::be16;
 ghost use mathlib.Core.Path.{_≡_};
 ghost use Prim.Native.Nat.{_≤_};
 ghost use lib.ListN.{length};
@@ -21,10 +22,10 @@ fn clear_row(d: &[u8], out: &mut [u8], k: usize, start: usize, left: usize)
     let mut p = start;
     let mut i = 0;
     while i < k {
-        let size = be16(d, p);
+        let size = size_at(d, p);
         let end = p + size;
         out[p + 2] = 0;
-        let f = fields(d, d[p + 3], p, end);
+        let f = fields(d, code_at(d, p), p, end);
         let next = f.next;
         let children = f.children;
         if 0 < children {

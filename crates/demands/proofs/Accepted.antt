@@ -13,7 +13,7 @@ use Rattle.descriptor.specs.Outcome.{Outcome, refused, read}
 use Rattle.descriptor.specs.Check.{checked}
 use Rattle.descriptor.specs.Answers.{accepted, noTable, descriptorCheck}
 use Rattle.encoding.proofs.Accepted.{accepted-spells, spells-accepted, one-tree}
-use Rattle.demands.proofs.Refusals.{refused-number}
+use Rattle.descriptor.proofs.Places.{refused-number}
 
 -- "well formed by the published pages as 01 carries them, within its limits": d is the encoding of a tree within the limits, whatever
 -- its reserved bytes hold

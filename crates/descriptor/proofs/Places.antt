@@ -1,11 +1,12 @@
--- The place of a refusal lies within the bytes: no further than they are long, where they are no longer than is carried.
+-- The number of a refusal is never 0, so that 0 means accepted; and its place lies within the bytes: no further than they are long,
+-- where they are no longer than is carried.
 -- Rests on the definitions of the check and on where its readings end.
 use mathlib.Core.Path.{_≡_, refl, subst}
 use mathlib.Core.Bool.{Bool, true, false, cond, not, _&&_, _||_}
 use mathlib.Core.List.{List}
-use Prim.Native.Nat.{ℕ, zero, suc, _+_, _-_, _*_, _%_, _≤_}
+use Prim.Native.Nat.{ℕ, zero, suc, _+_, _-_, _*_, _%_, _≤_, _<_}
 use native.Mathlib.Omega.{arith}
-use borrow.Author.Tests.{leb-true}
+use borrow.Author.Tests.{leb-true, ltb-true}
 use lib.Dec.{leb, ltb, eqb}
 use lib.ListN.{length, getD}
 use Rattle.number.specs.Endian.{be}
@@ -17,21 +18,21 @@ use Rattle.descriptor.specs.Check.{sizeFits, headerAt, countAt, itemAt, 
 use Rattle.descriptor.proofs.Outcomes.{Holds, nothing, reading}
 use Rattle.descriptor.proofs.Sizes.{Ends, header-fits, fields-end, tree-ends}
 
--- where the outcome is a refusal, its place is no further than `most`
+-- where the outcome is a refusal, its number is above 0 and its place is no further than `most`
 data Placed {A : Type 0} (most : ℕ) : Outcome A → Type 0 where
   accepted : {q : ℕ} {x : A} → Placed most (read q x)
-  placed : {number place : ℕ} → place ≤ most → Placed most (refused number place)
+  placed : {number place : ℕ} → ltb 0 number ≡ true → place ≤ most → Placed most (refused number place)
 
 -- a test that refuses at such a place; what follows may rest on it
-placed-test : {A : Type 0} {most : ℕ} (b : Bool) (number place : ℕ) {o : Outcome A} → place ≤ most → (b ≡ true → Placed most o)
+placed-test : {A : Type 0} {most : ℕ} (b : Bool) (number place : ℕ) {o : Outcome A} → ltb 0 number ≡ true → place ≤ most → (b ≡ true → Placed most o)
     → Placed most (require b number place o)
-placed-test true number place h f = f refl
-placed-test false number place h f = placed h
+placed-test true number place a h f = f refl
+placed-test false number place a h f = placed a h
 
 -- the same where it doesn't
-placed-require : {A : Type 0} {most : ℕ} (b : Bool) (number place : ℕ) {o : Outcome A} → place ≤ most → Placed most o
+placed-require : {A : Type 0} {most : ℕ} (b : Bool) (number place : ℕ) {o : Outcome A} → ltb 0 number ≡ true → place ≤ most → Placed most o
     → Placed most (require b number place o)
-placed-require b number place h f = placed-test b number place h (λ _. f)
+placed-require b number place a h f = placed-test b number place a h (λ _. f)
 
 -- either of two cases
 placed-cond : {A : Type 0} {most : ℕ} (b : Bool) {o u : Outcome A} → Placed most o → Placed most u → Placed most (cond b o u)
@@ -41,26 +42,26 @@ placed-cond false f g = g
 -- a reading, and what follows it
 placed-then : {A B : Type 0} {most : ℕ} {P : ℕ → A → Type 0} {o : Outcome A} {next : ℕ → A → Outcome B} → Holds P o → Placed most o
     → ((q : ℕ) (x : A) → P q x → Placed most (next q x)) → Placed most (andThen o next)
-placed-then nothing (placed h) g = placed h
+placed-then nothing (placed a h) g = placed a h
 placed-then (reading p) accepted g = g _ _ p
 
 -- the same where nothing is asked of what was read
 placed-and : {A B : Type 0} {most : ℕ} {o : Outcome A} {next : ℕ → A → Outcome B} → Placed most o → ((q : ℕ) (x : A) → Placed most (next q x))
     → Placed most (andThen o next)
-placed-and (placed h) g = placed h
+placed-and (placed a h) g = placed a h
 placed-and accepted g = g _ _
 
 -- the parts of the descriptor at p
 module _ (s : List ℕ) (p stop most : ℕ) (here : p ≤ most) where
   count-placed : (n : ℕ) → Placed most (countAt s p stop n)
   unfolding countAt
-  count-placed n = placed-require (leb (p + 6) stop) 8 p here (placed-require (between 1 n (be s (p + 4) 2)) 9 p here accepted)
+  count-placed n = placed-require (leb (p + 6) stop) 8 p refl here (placed-require (between 1 n (be s (p + 4) 2)) 9 p refl here accepted)
 
   items-placed : (k at : ℕ) → Placed most (itemsAt s p stop k at)
   unfolding itemsAt itemAt
   items-placed zero at = accepted
   items-placed (suc k) at =
-      placed-and (placed-require (ltb at stop) 8 p here (placed-require (leb (at + 1 + getD s at 0) stop) 8 p here accepted))
+      placed-and (placed-require (ltb at stop) 8 p refl here (placed-require (leb (at + 1 + getD s at 0) stop) 8 p refl here accepted))
       (λ next x. placed-and (items-placed k next) (λ last xs. accepted))
 
   fields-placed : (k : Kind) → Placed most (fieldsAt k s p stop)
@@ -70,35 +71,35 @@ module _ (s : List ℕ) (p stop most : ℕ) (here : p ≤ most) where
       placed-and (count-placed countLimit) (λ at k.
       placed-and (items-placed k at) (λ next xs.
       placed-cond (eqb ((next - p) % 2) 0) accepted
-      (placed-require (ltb next stop) 8 p here (placed-require (eqb (getD s next 0) 0) 10 p here accepted))))
+      (placed-require (ltb next stop) 8 p refl here (placed-require (eqb (getD s next 0) 0) 10 p refl here accepted))))
   fields-placed quantity =
       placed-and (count-placed pairLimit) (λ at k.
-      placed-require (leb (at + 4 * k) stop) 8 p here (placed-require (basesFit (pairsAt s k at)) 10 p here accepted))
-  fields-placed string = placed-require (leb (p + 8) stop) 8 p here (placed-require (wordsFit s 1 (p + 4)) 10 p here accepted)
+      placed-require (leb (at + 4 * k) stop) 8 p refl here (placed-require (basesFit (pairsAt s k at)) 10 p refl here accepted))
+  fields-placed string = placed-require (leb (p + 8) stop) 8 p refl here (placed-require (wordsFit s 1 (p + 4)) 10 p refl here accepted)
   fields-placed array =
       placed-and (count-placed dimensionLimit) (λ at k.
-      placed-require (leb (at + 4 * k) stop) 8 p here (placed-require (wordsFit s k at) 10 p here accepted))
+      placed-require (leb (at + 4 * k) stop) 8 p refl here (placed-require (wordsFit s k at) 10 p refl here accepted))
   fields-placed cluster = placed-and (count-placed countLimit) (λ at k. accepted)
-  fields-placed unknown = placed here
+  fields-placed unknown = placed refl here
 
   name-placed : (at : ℕ) → Placed most (nameAt s p stop at)
   unfolding nameAt
   name-placed at =
       placed-cond (eqb at stop) accepted
-      (placed-require (eqb (at + 1 + getD s at 0 + (1 + getD s at 0) % 2) stop) 11 p here
-      (placed-require (eqb ((1 + getD s at 0) % 2) 0 || eqb (getD s (at + 1 + getD s at 0) 0) 0) 11 p here accepted))
+      (placed-require (eqb (at + 1 + getD s at 0 + (1 + getD s at 0) % 2) stop) 11 p refl here
+      (placed-require (eqb ((1 + getD s at 0) % 2) 0 || eqb (getD s (at + 1 + getD s at 0) 0) 0) 11 p refl here accepted))
 
 -- a header
 header-placed : (s : List ℕ) (levels : ℕ) (a : Bool) (end p n most : ℕ) → p ≤ most → Placed most (headerAt s levels a end p n)
 unfolding headerAt
 header-placed s levels a end p n most h =
     let c : ℕ = getD s (p + 3) 0 in
-    placed-require (leb 4 (end - p)) 2 p h
-    (placed-require (ltb (be s p 2) 32768) 3 p h
-    (placed-require (sizeFits (be s p 2) (end - p)) 4 p h
-    (placed-require (isCarried (kindOf c)) 5 p h
-    (placed-require (ltb 0 levels) 6 p h
-    (placed-require (ltb n rowLimit) 7 p h (placed-require (not (a && isArray (kindOf c))) 10 p h accepted))))))
+    placed-require (leb 4 (end - p)) 2 p refl h
+    (placed-require (ltb (be s p 2) 32768) 3 p refl h
+    (placed-require (sizeFits (be s p 2) (end - p)) 4 p refl h
+    (placed-require (isCarried (kindOf c)) 5 p refl h
+    (placed-require (ltb 0 levels) 6 p refl h
+    (placed-require (ltb n rowLimit) 7 p refl h (placed-require (not (a && isArray (kindOf c))) 10 p refl h accepted))))))
 
 -- descriptors in a row that end within `stop`
 members-placed : (stop : ℕ) (f : ℕ → ℕ → Outcome Tree) → ((p n : ℕ) → Holds (λ q t. Ends p stop (treeSize t) q) (f p n))
@@ -111,7 +112,7 @@ members-placed stop f ends at (suc k) p n h =
 -- no further than more
 placed-wider : {A : Type 0} {most more : ℕ} {o : Outcome A} → most ≤ more → Placed most o → Placed more o
 placed-wider h accepted = accepted
-placed-wider h (placed {place = place} p) = placed {place = place} (omega arith)
+placed-wider h (placed {place = place} a p) = placed {place = place} a (omega arith)
 
 -- a descriptor
 tree-placed : (s : List ℕ) (levels : ℕ) (a : Bool) (end p n : ℕ) → end ≤ length s → p ≤ end → Placed end (treeAt levels s a end p n)
@@ -131,16 +132,25 @@ tree-placed s (suc d) a end p n inside h =
     placed-and (name-placed s p stop end h next) (λ last m. accepted))))
 
 -- the whole check
-pub refused-place : (s : List ℕ) (number place : ℕ) → checked s ≡ refused number place → place ≤ descriptorLimit
+all-placed : (s : List ℕ) → Placed descriptorLimit (checked s)
 unfolding checked
-refused-place s number place e = at (subst (λ (o : Outcome Tree). Placed descriptorLimit o) e all)
-  where
-    at : Placed {A = Tree} descriptorLimit (refused number place) → place ≤ descriptorLimit
-    at (placed h) = h
+all-placed s =
+    placed-test (leb (length s) descriptorLimit) 1 0 refl (omega arith) (λ short.
+    placed-then (tree-ends s depthLimit false (length s) 0 0 (omega arith))
+    (placed-wider (leb-true _ _ short) (tree-placed s depthLimit false (length s) 0 0 (omega arith) (omega arith))) (λ q t ends.
+    placed-require (eqb q (length s)) 12 q refl (omega (arith, ends .within, leb-true)) accepted))
 
-    all : Placed descriptorLimit (checked s)
-    all =
-        placed-test (leb (length s) descriptorLimit) 1 0 (omega arith) (λ short.
-        placed-then (tree-ends s depthLimit false (length s) 0 0 (omega arith))
-        (placed-wider (leb-true _ _ short) (tree-placed s depthLimit false (length s) 0 0 (omega arith) (omega arith))) (λ q t ends.
-        placed-require (eqb q (length s)) 12 q (omega (arith, ends .within, leb-true)) accepted))
+module _ (s : List ℕ) (number place : ℕ) (e : checked s ≡ refused number place) where
+  both : (0 < number) × (place ≤ descriptorLimit)
+  both = of (subst (λ (o : Outcome Tree). Placed descriptorLimit o) e (all-placed s))
+    where
+      of : Placed {A = Tree} descriptorLimit (refused number place) → (0 < number) × (place ≤ descriptorLimit)
+      of (placed a h) = (ltb-true 0 number a, h)
+
+  -- a refusal's number is above 0
+  pub refused-number : 0 < number
+  refused-number = both .0
+
+  -- and its place lies in a descriptor
+  pub refused-place : place ≤ descriptorLimit
+  refused-place = both .1

@@ -17,7 +17,8 @@ use Rattle.canonical.proofs.compare.same_within.Kinds as same-within-ki
 use Rattle.canonical.proofs.compare.+same_within.Lts-same_within as same-within-lts
 use Rattle.canonical.proofs.compare.same_run.Reads as same-run-reads
 use Rattle.descriptor.proofs.fields.fields.Reads as fields-reads
-use Rattle.number.proofs.be16.Reads as be16-reads
+use Rattle.descriptor.proofs.header.code_at.Reads as code-at-reads
+use Rattle.descriptor.proofs.header.size_at.Reads as size-at-reads
 use Rattle.canonical.proofs.compare.+same_within.{statement}
 use Rattle.canonical.proofs.compare.+same_within.Tie.{close}
 
@@ -34,7 +35,7 @@ same-within-below t =
 
 -- what the callees ask and give, and this function below the measure t
 abbrev cs : ℕ → same-within-lts.Claims
-cs t = (be16-reads.Asked, be16-reads.Learnt, same-run-reads.Asked, same-run-reads.Learnt, fields-reads.Asked, fields-reads.Learnt, same-within-below t, same-within.Post)
+cs t = (size-at-reads.Asked, size-at-reads.Learnt, same-run-reads.Asked, same-run-reads.Learnt, code-at-reads.Asked, code-at-reads.Learnt, fields-reads.Asked, fields-reads.Learnt, same-within-below t, same-within.Post)
 
 abbrev inv : same-within-lts.InvT-loop
 inv a b k start stop left p₀ i₀ p i = SameLoop a b k start stop left p i
@@ -56,9 +57,9 @@ there : (t : ℕ) (c : same-within-lts.After-fields (cs t) (same-within-at t) sa
     → Taken (now (c .before .before .before .before .before .before .before .before .before .args .a))
     (c .before .before .before .before .before .before .before .before .before .args .k - (c .before .before .before .before .before .before .loop .i + 1))
     (c .before .before .before .before .before .before .loop .p) (c .before .before .before .before .before .before .before .before .before .args .stop)
-    (c .before .before .before .before .before .before .before .before .before .args .left) (c .before .before .before .before .be16 .result) (c .fields .result)
+    (c .before .before .before .before .before .before .before .before .before .args .left) (c .before .before .before .before .size-at .result) (c .fields .result)
 there t c =
-    taken _ _ _ _ _ _ _ (here t (c .before .before .before .before .before)) (c .before .before .before .before .be16 .ensures .eq) (c .fields .ensures)
+    taken _ _ _ _ _ _ _ _ (here t (c .before .before .before .before .before)) (c .before .before .before .before .size-at .ensures .eq) (c .before .code-at .ensures) (c .fields .ensures)
 
 same-within-loop-holds : (t : ℕ) → same-within-lts.Need-loop-holds (cs t) (same-within-at t) same-within.Post inv μ
 same-within-loop-holds t c =
@@ -67,11 +68,11 @@ same-within-loop-holds t c =
     let b = now (g .b) in
     same-begin a b (g .k) (g .start) (g .stop) (g .left) (λ n. omega (arith, c .before .shared-slice-known .given n)) (c .before .before .pre .1 .0)
 
-same-within-be16-requires : (t : ℕ) → same-within-lts.Need-be16-requires (cs t) (same-within-at t) same-within.Post inv μ
-same-within-be16-requires t c κs = let turn = here t c in omega (arith, turn .least, turn .fits, turn .rest .inside, turn .rest .small)
+same-within-size-at-requires : (t : ℕ) → same-within-lts.Need-size-at-requires (cs t) (same-within-at t) same-within.Post inv μ
+same-within-size-at-requires t c κs = let turn = here t c in omega (arith, turn .least, turn .fits, turn .rest .inside, turn .rest .small)
 
 same-within-add-end : (t : ℕ) → same-within-lts.Need-add-end (cs t) (same-within-at t) same-within.Post inv μ
-same-within-add-end t c = let turn = here t (c .before) in omega (arith, turn .least, turn .fits, turn .rest .inside, turn .rest .small, c .be16 .ensures .eq)
+same-within-add-end t c = let turn = here t (c .before) in omega (arith, turn .least, turn .fits, turn .rest .inside, turn .rest .small, c .size-at .ensures .eq)
 
 same-within-add-same-run : (t : ℕ) → same-within-lts.Need-add-same-run (cs t) (same-within-at t) same-within.Post inv μ
 same-within-add-same-run t c = let turn = here t (c .before) in omega (arith, turn .least, turn .fits, turn .rest .inside, turn .rest .small)
@@ -90,16 +91,13 @@ same-within-returns t c =
     let next = same-next a b (g .k) (g .start) (g .stop) (g .left) (l .p) (l .i) (l .inv) (c .before .before .before .loop-test .taken) in
     sym (next ∙ size-stop a b (l .inv .bytes) (c .before .before .before .before .before .before .before .pre .1 .1) _ (l .p) (g .stop) (g .left) (here t (c .before .before .before)) (sym (c .before .same-run .ensures) ∙ not-true _ (c .if1 .taken)))
 
-same-within-add-fields : (t : ℕ) → same-within-lts.Need-add-fields (cs t) (same-within-at t) same-within.Post inv μ
-same-within-add-fields t c = let turn = here t (c .before .before .before) in omega (arith, turn .least, turn .fits, turn .rest .inside, turn .rest .small)
-
-same-within-shared-slice-read-fields : (t : ℕ) → same-within-lts.Need-shared-slice-read-fields (cs t) (same-within-at t) same-within.Post inv μ
-same-within-shared-slice-read-fields t c = let turn = here t (c .before .before .before .before) in omega (arith, turn .least, turn .fits, turn .rest .inside, turn .rest .small)
+same-within-code-at-requires : (t : ℕ) → same-within-lts.Need-code-at-requires (cs t) (same-within-at t) same-within.Post inv μ
+same-within-code-at-requires t c κs = let turn = here t (c .before .before .before) in omega (arith, turn .least, turn .fits, turn .rest .inside, turn .rest .small)
 
 same-within-fields-requires : (t : ℕ) → same-within-lts.Need-fields-requires (cs t) (same-within-at t) same-within.Post inv μ
 same-within-fields-requires t c κs =
     let turn = here t (c .before .before .before .before) in
-    record { from = omega arith; inside = omega (arith, turn .least, turn .fits, turn .rest .inside, turn .rest .small, c .before .before .before .be16 .ensures .eq); small = turn .rest .small }
+    record { from = omega arith; inside = omega (arith, turn .least, turn .fits, turn .rest .inside, turn .rest .small, c .before .before .before .size-at .ensures .eq); small = turn .rest .small }
 
 same-within-add-same-run-2 : (t : ℕ) → same-within-lts.Need-add-same-run-2 (cs t) (same-within-at t) same-within.Post inv μ
 same-within-add-same-run-2 t c = let turn = here t (c .before .before .before .before .before) in omega (arith, turn .least, turn .fits, turn .rest .inside, turn .rest .small)
@@ -168,7 +166,7 @@ same-within-loop-again t c =
     let next = same-next a b (g .k) (g .start) (g .stop) (g .left) (l .p) (l .i) (l .inv) (c .before .before .before .before .before .before .before .before .loop-test .taken) in
     let sized = sym (c .before .before .before .before .before .before .same-run .ensures) ∙ not-false _ (c .before .before .before .before .before .if1 .left) in
     let body = sym (c .before .before .same-run2 .ensures) ∙ not-false _ (c .before .if2 .left) in
-    let rest : sameWithin a b (c .before .before .before .fields .result .children) (c .before .before .before .fields .result .next) (l .p + c .before .before .before .before .before .before .before .be16 .result) ≡ true =
+    let rest : sameWithin a b (c .before .before .before .fields .result .children) (c .before .before .before .fields .result .next) (l .p + c .before .before .before .before .before .before .before .size-at .result) ≡ true =
     ⊎-elim (λ u. sym (same-childless a b _ _ _ (u .0 .taken)) ∙ sym (u .1 .ensures) ∙ not-false _ (u .2 .left))
     (λ u. sym (u .1 .ensures) ∙ not-false _ (u .2 .left)) (c .if3 .came) in
     record {
@@ -198,13 +196,12 @@ pub +same-within-spec : {M : Type 1} → statement M
     inv
     μ
     (same-within-loop-holds t)
-    (same-within-be16-requires t)
+    (same-within-size-at-requires t)
     (same-within-add-end t)
     (same-within-add-same-run t)
     (same-within-same-run-requires t)
     (same-within-returns t)
-    (same-within-add-fields t)
-    (same-within-shared-slice-read-fields t)
+    (same-within-code-at-requires t)
     (same-within-fields-requires t)
     (same-within-add-same-run-2 t)
     (same-within-same-run-requires-2 t)

@@ -14,7 +14,8 @@ use Rattle.canonical.proofs.normal.clear_row.Reads as clear-row
 use Rattle.canonical.proofs.normal.clear_row.Kinds as clear-row-kinds
 use Rattle.canonical.proofs.normal.+clear_row.Lts-clear_row as clear-row-lts
 use Rattle.descriptor.proofs.fields.fields.Reads as fields-reads
-use Rattle.number.proofs.be16.Reads as be16-reads
+use Rattle.descriptor.proofs.header.code_at.Reads as code-at-reads
+use Rattle.descriptor.proofs.header.size_at.Reads as size-at-reads
 use Rattle.canonical.proofs.normal.+clear_row.{statement}
 use Rattle.canonical.proofs.normal.+clear_row.Tie.{close}
 
@@ -30,7 +31,7 @@ clear-row-below t =
 
 -- what the callees ask and give, and this function below the measure t
 abbrev cs : ℕ → clear-row-lts.Claims
-cs t = (be16-reads.Asked, be16-reads.Learnt, fields-reads.Asked, fields-reads.Learnt, clear-row-below t, clear-row.Post)
+cs t = (size-at-reads.Asked, size-at-reads.Learnt, code-at-reads.Asked, code-at-reads.Learnt, fields-reads.Asked, fields-reads.Learnt, clear-row-below t, clear-row.Post)
 
 abbrev inv : clear-row-lts.InvT-loop
 inv d out₀ k start left p₀ i₀ out p i = ClearLoop d out₀ out k start left p i
@@ -52,19 +53,19 @@ there : (t : ℕ) (c : clear-row-lts.After-fields (cs t) (clear-row-at t) clear-
     → Taken (now (c .before .before .before .before .before .before .before .args .d))
     (c .before .before .before .before .before .before .before .args .k - (c .before .before .before .before .loop .i + 1))
     (c .before .before .before .before .loop .p) (length (now (c .before .before .before .before .before .before .before .args .d)))
-    (c .before .before .before .before .before .before .before .args .left) (c .before .before .be16 .result) (c .fields .result)
-there t c = taken _ _ _ _ _ _ _ (here t (c .before .before .before)) (c .before .before .be16 .ensures .eq) (c .fields .ensures)
+    (c .before .before .before .before .before .before .before .args .left) (c .before .before .size-at .result) (c .fields .result)
+there t c = taken _ _ _ _ _ _ _ _ (here t (c .before .before .before)) (c .before .before .size-at .ensures .eq) (c .before .code-at .ensures) (c .fields .ensures)
 
 clear-row-loop-holds : (t : ℕ) → clear-row-lts.Need-loop-holds (cs t) (clear-row-at t) clear-row.Post inv μ
 clear-row-loop-holds t c =
     let g = c .before .before .args in
     clear-begin (now (g .d)) (now (g .out)) (g .k) (g .start) (g .left) (c .before .before .pre .1 .0)
 
-clear-row-be16-requires : (t : ℕ) → clear-row-lts.Need-be16-requires (cs t) (clear-row-at t) clear-row.Post inv μ
-clear-row-be16-requires t c κs = let turn = here t c in omega (arith, turn .least, turn .fits, turn .rest .small)
+clear-row-size-at-requires : (t : ℕ) → clear-row-lts.Need-size-at-requires (cs t) (clear-row-at t) clear-row.Post inv μ
+clear-row-size-at-requires t c κs = let turn = here t c in omega (arith, turn .least, turn .fits, turn .rest .small)
 
 clear-row-add-end : (t : ℕ) → clear-row-lts.Need-add-end (cs t) (clear-row-at t) clear-row.Post inv μ
-clear-row-add-end t c = let turn = here t (c .before) in omega (arith, turn .least, turn .fits, turn .rest .small, c .be16 .ensures .eq)
+clear-row-add-end t c = let turn = here t (c .before) in omega (arith, turn .least, turn .fits, turn .rest .small, c .size-at .ensures .eq)
 
 clear-row-add-out : (t : ℕ) → clear-row-lts.Need-add-out (cs t) (clear-row-at t) clear-row.Post inv μ
 clear-row-add-out t c = let turn = here t (c .before) in omega (arith, turn .least, turn .fits, turn .rest .small)
@@ -72,16 +73,13 @@ clear-row-add-out t c = let turn = here t (c .before) in omega (arith, turn .lea
 clear-row-slice-write-out : (t : ℕ) → clear-row-lts.Need-slice-write-out (cs t) (clear-row-at t) clear-row.Post inv μ
 clear-row-slice-write-out t c = let turn = here t (c .before) in omega (arith, turn .least, turn .fits, turn .rest .small, c .before .before .before .before .before .pre .1 .1, c .before .before .loop .inv .long)
 
-clear-row-add-fields : (t : ℕ) → clear-row-lts.Need-add-fields (cs t) (clear-row-at t) clear-row.Post inv μ
-clear-row-add-fields t c = let turn = here t (c .before) in omega (arith, turn .least, turn .fits, turn .rest .small)
-
-clear-row-shared-slice-read-fields : (t : ℕ) → clear-row-lts.Need-shared-slice-read-fields (cs t) (clear-row-at t) clear-row.Post inv μ
-clear-row-shared-slice-read-fields t c = let turn = here t (c .before .before) in omega (arith, turn .least, turn .fits, turn .rest .small)
+clear-row-code-at-requires : (t : ℕ) → clear-row-lts.Need-code-at-requires (cs t) (clear-row-at t) clear-row.Post inv μ
+clear-row-code-at-requires t c κs = let turn = here t (c .before) in omega (arith, turn .least, turn .fits, turn .rest .small)
 
 clear-row-fields-requires : (t : ℕ) → clear-row-lts.Need-fields-requires (cs t) (clear-row-at t) clear-row.Post inv μ
 clear-row-fields-requires t c κs =
     let turn = here t (c .before .before) in
-    record { from = omega arith; inside = omega (arith, turn .least, turn .fits, turn .rest .small, c .before .be16 .ensures .eq); small = turn .rest .small }
+    record { from = omega arith; inside = omega (arith, turn .least, turn .fits, turn .rest .small, c .before .size-at .ensures .eq); small = turn .rest .small }
 
 clear-row-sub-clear-row : (t : ℕ) → clear-row-lts.Need-sub-clear-row (cs t) (clear-row-at t) clear-row.Post inv μ
 clear-row-sub-clear-row t c = here t (c .before .before .before .before .before) .deep
@@ -123,12 +121,11 @@ pub +clear-row-spec : {M : Type 1} → statement M
     inv
     μ
     (clear-row-loop-holds t)
-    (clear-row-be16-requires t)
+    (clear-row-size-at-requires t)
     (clear-row-add-end t)
     (clear-row-add-out t)
     (clear-row-slice-write-out t)
-    (clear-row-add-fields t)
-    (clear-row-shared-slice-read-fields t)
+    (clear-row-code-at-requires t)
     (clear-row-fields-requires t)
     (clear-row-sub-clear-row t)
     (clear-row-clear-row-requires t)
