@@ -8,7 +8,7 @@ use lib.Seq.{sets}
 use lib.Dec.{eqb}
 use Rattle.descriptor.specs.Limits.{descriptorLimit, rowLimit, depthLimit, countLimit}
 use Rattle.descriptor.specs.Tree.{Forest, forestHeight, forestRows}
-use Rattle.descriptor.specs.Table.{forestRowsOf}
+use Rattle.descriptor.specs.Table.{forestRowsOf, zeroRows}
 use Rattle.descriptor.specs.Standing.{standingRow, isRead, nextOf, forestOf}
 use Rattle.descriptor.specs.declared.answer.Row.{Row}
 use Rattle.descriptor.specs.declared.table.Table.{Table}
@@ -32,6 +32,10 @@ pub record RowPre (s : List ℕ) (depth p size count at : ℕ) : Type 0 where
   pub name : at ≤ p + size
   pub shallow : depth ≤ depthLimit
   pub counted : count ≤ countLimit
+
+-- the table with no row filled, at the first byte
+abbrev pub emptyTable : Table
+emptyTable = record { rows = zeroRows; n = 0; at = 0 }
 
 -- the k descriptors that stand where the table goes on
 abbrev pub ahead : List ℕ → ℕ → Table → Forest

@@ -1,9 +1,7 @@
 // The check of any bytes as a descriptor, with its table.
 use super::answer::Checked;
 use super::answer::answered;
-use super::limits::DEPTH_LIMIT;
-use super::table::Table;
-use super::table::tabulate_row;
+use super::table::tabulate;
 use super::table::zero_rows;
 use super::validate::validate;
 ghost use mathlib.Core.Path.{_≡_};
@@ -21,12 +19,7 @@ pub fn check_descriptor(d: &[u8]) -> Checked
             rows: zero_rows(),
         };
     }
-    let empty = Table {
-        rows: zero_rows(),
-        n: 0,
-        at: 0,
-    };
-    let t = tabulate_row(d, DEPTH_LIMIT, 1, empty);
+    let t = tabulate(d);
     let answer = answered(0, 0, v.count);
     let rows = t.rows;
     Checked { answer, rows }

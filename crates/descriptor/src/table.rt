@@ -6,8 +6,9 @@ use super::header::size_at;
 use super::limits::DEPTH_LIMIT;
 ghost use mathlib.Core.Path.{_≡_};
 ghost use Prim.Native.Nat.{_+_, _-_};
+ghost use Rattle.descriptor.specs.Limits.{depthLimit};
 ghost use Rattle.descriptor.specs.Table.{zeroRow, zeroRows};
-ghost use Rattle.descriptor.specs.Filling.{RowPre, TablePre, rowRead, filled};
+ghost use Rattle.descriptor.specs.Filling.{RowPre, TablePre, rowRead, emptyTable, filled};
 
 // The table so far: its rows, how many are filled, and where the next descriptor stands.
 pub struct Table {
@@ -66,7 +67,7 @@ fn row_at(d: &[u8], depth: usize, p: usize, code: u8, size: usize, count: usize,
 
 // Fills the rows of the k descriptors that stand in a row at `t.at`, with `left` levels of the depth left. It calls itself for a
 // descriptor that has children.
-pub fn tabulate_row(d: &[u8], left: usize, k: usize, mut t: Table) -> Table
+fn tabulate_row(d: &[u8], left: usize, k: usize, mut t: Table) -> Table
     requires { ⌜ TablePre (now d) left k t ⌝ }
     ensures { λ r. ⌜ r ≡ filled (now (d .entry)) left k t ⌝ }
 {
@@ -86,5 +87,28 @@ pub fn tabulate_row(d: &[u8], left: usize, k: usize, mut t: Table) -> Table
         t.at = p + size;
         i += 1;
     }
+    t
+}
+
+// The table of an accepted descriptor. Its own row is filled here and not as a row of one: that would carry the table through one call
+// more.
+pub fn tabulate(d: &[u8]) -> Table
+    requires { ⌜ TablePre (now d) depthLimit 1 emptyTable ⌝ }
+    ensures { λ r. ⌜ r ≡ filled (now (d .entry)) depthLimit 1 emptyTable ⌝ }
+{
+    let p = 0;
+    let size = size_at(d, p);
+    let code = code_at(d, p);
+    let b = fields(d, code, p, p + size);
+    let mut t = Table {
+        rows: zero_rows(),
+        n: 1,
+        at: b.next,
+    };
+    if 0 < b.children {
+        t = tabulate_row(d, DEPTH_LIMIT - 1, b.children, t);
+    }
+    t.rows[0] = row_at(d, 1, p, code, size, b.count, t.at);
+    t.at = p + size;
     t
 }

@@ -1,10 +1,12 @@
 -- `check_descriptor` is the validation, and then the table. Assumes nothing.
+use mathlib.Core.Path.{refl}
 use native.Mathlib.Omega.{arith}
 use denote.Ref.{now}
 use borrow.Author.Needs.{needs}
 use borrow.Author.Tests.{not-true, not-false}
 use Rattle.descriptor.specs.Tree.{rowCount}
 use Rattle.descriptor.specs.Check.{checked}
+use Rattle.descriptor.specs.Table.{zeroRows}
 use Rattle.descriptor.proofs.Steps.{got}
 use Rattle.descriptor.proofs.Checked.{judged-refused, judged-place, few-rows, table-begun, check-accepted, check-refused}
 use borrow.Author.Needs.{needs}
@@ -29,26 +31,23 @@ returns c = let s = now (c .before .before .before .before .before .before .args
     let off = not-true _ (c .before .before .if1 .taken) in
     check-refused s _ _ (judged-refused s (v .result) (v .ensures) off) (c .before .answered .result) (c .before .answered .ensures) (c .zero-rows .result) (c .zero-rows .ensures)
 
-zero-rows-requires-2 : tie.Need-zero-rows-requires-2
-zero-rows-requires-2 c κs = search needs
-
-tabulate-row-requires : tie.Need-tabulate-row-requires
-tabulate-row-requires c κs = let s = now (c .before .before .before .before .before .args .d) in
-    let v = c .before .before .before .validate in
-    let g = got rowCount (λ _. 0) (checked s) (v .result) (v .ensures) (not-false _ (c .before .if1 .left)) in
-    table-begun s (v .result .next) (g .value) (g .eq) (c .zero-rows2 .result)
+tabulate-requires : tie.Need-tabulate-requires
+tabulate-requires c κs = let s = now (c .before .before .before .before .args .d) in
+    let v = c .before .before .validate in
+    let g = got rowCount (λ _. 0) (checked s) (v .result) (v .ensures) (not-false _ (c .if1 .left)) in
+    table-begun s (v .result .next) (g .value) (g .eq) zeroRows
 
 answered-requires-2 : tie.Need-answered-requires-2
-answered-requires-2 c κs = let s = now (c .before .before .before .before .before .before .args .d) in
-    let v = c .before .before .before .before .validate in
-    let g = got rowCount (λ _. 0) (checked s) (v .result) (v .ensures) (not-false _ (c .before .before .if1 .left)) in
-    omega (arith, g .counts, few-rows s (v .result .next) (g .value) (g .eq) (c .before .zero-rows2 .result))
+answered-requires-2 c κs = let s = now (c .before .before .before .before .before .args .d) in
+    let v = c .before .before .before .validate in
+    let g = got rowCount (λ _. 0) (checked s) (v .result) (v .ensures) (not-false _ (c .before .if1 .left)) in
+    omega (arith, g .counts, few-rows s (v .result .next) (g .value) (g .eq) zeroRows)
 
 returns-2 : tie.Need-returns-2
-returns-2 c = let s = now (c .before .before .before .before .before .before .before .before .args .d) in
-    let v = c .before .before .before .before .before .before .validate in
-    let g = got rowCount (λ _. 0) (checked s) (v .result) (v .ensures) (not-false _ (c .before .before .before .before .if1 .left)) in
-    check-accepted s (v .result .next) (g .value) (g .eq) (c .before .before .before .zero-rows2 .result) (v .result .count) (g .counts) (c .before .answered2 .result) (c .before .answered2 .ensures) (c .before .before .before .zero-rows2 .ensures) (c .before .before .tabulate-row .result) (c .before .before .tabulate-row .ensures)
+returns-2 c = let s = now (c .before .before .before .before .before .before .before .args .d) in
+    let v = c .before .before .before .before .before .validate in
+    let g = got rowCount (λ _. 0) (checked s) (v .result) (v .ensures) (not-false _ (c .before .before .before .if1 .left)) in
+    check-accepted s (v .result .next) (g .value) (g .eq) zeroRows (v .result .count) (g .counts) (c .before .answered2 .result) (c .before .answered2 .ensures) refl (c .before .before .tabulate .result) (c .before .before .tabulate .ensures)
 
 pub check-descriptor-spec : {M : Type 1} → statement M
 check-descriptor-spec =
@@ -58,7 +57,6 @@ check-descriptor-spec =
     answered-requires
     zero-rows-requires
     returns
-    zero-rows-requires-2
-    tabulate-row-requires
+    tabulate-requires
     answered-requires-2
     returns-2)
