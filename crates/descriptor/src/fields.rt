@@ -206,7 +206,7 @@ fn body_fields(d: &[u8], code: u8, p: usize, stop: usize) -> Step
     refuse(5, p)
 }
 
-// The fields of the descriptor at p, which ends at `stop` and has the code `code`. Most have no body: those cost no call.
+// The fields of the descriptor at p, which ends at `stop` and has the code `code`; none where the code has no body.
 pub fn fields(d: &[u8], code: u8, p: usize, stop: usize) -> Step
     requires { ⌜ Within (now d) p stop ⌝ }
     ensures { λ r. ⌜ r ≡ fieldsStep (fieldsAt (kindOf code) (now (d .entry)) p stop) ⌝ }
