@@ -4,17 +4,18 @@ use mathlib.Core.Bool.{Bool, true, false}
 use mathlib.Core.List.{List}
 use Prim.Native.Nat.{ℕ, _+_, _-_, _*_, _%_, _<_, _≤_}
 use native.Mathlib.Omega.{arith}
-use borrow.Author.Tests.{le-leb, lt-leb, lt-ltb, le-ltb, eq-eqb, ne-eqb}
+use borrow.Author.Tests.{leb-true, lt-ltb, le-ltb, eq-eqb, ne-eqb}
+use lib.Dec.{leb}
 use lib.ListN.{length, getD}
-use Rattle.descriptor.specs.Limits.{dimensionLimit, pairLimit, countLimit}
-use Rattle.descriptor.specs.Codes.{Kind, plain, enumeration, quantity, string, array, cluster, unknown}
-use Rattle.descriptor.specs.Outcome.{Outcome, refused, read, andThen}
+use Rattle.descriptor.specs.Limits.{countLimit}
+use Rattle.descriptor.specs.Codes.{enumeration, cluster}
+use Rattle.descriptor.specs.Outcome.{Outcome, refused, read, andThen, require}
 use Rattle.descriptor.specs.Tree.{Fields, countOf, childCount}
-use Rattle.descriptor.specs.Check.{countAt, itemsAt, fillAt, pairsAt, basesFit, wordsFit, fieldsAt}
-use Rattle.descriptor.specs.Steps.{counted, fieldsStep, refusedStep, readStep, kindNumber}
+use Rattle.descriptor.specs.Check.{countAt, itemsAt, fillAt, fieldsAt}
+use Rattle.descriptor.specs.Steps.{runAt, counted, fieldsStep, refusedStep, readStep}
 use Rattle.descriptor.specs.declared.step.Step.{Step}
-use Rattle.descriptor.proofs.Outcomes.{holds-read}
-use Rattle.descriptor.proofs.Sizes.{CountFits, count-fits, length-pairsAt}
+use Rattle.descriptor.proofs.Outcomes.{Holds, found, holds-read, holds-require, holds-andThen}
+use Rattle.descriptor.proofs.Sizes.{CountFits, count-fits}
 use Rattle.descriptor.proofs.Steps.{Got, got}
 
 module _ (s : List ℕ) (p stop : ℕ) where
@@ -33,34 +34,6 @@ module _ (s : List ℕ) (p stop : ℕ) where
     unfolding fieldsAt countOf childCount
     cluster-read e = rw e
 
-    pub pairs-over : countAt s p stop pairLimit ≡ read q k → stop < q + 4 * k → fieldsStep (fieldsAt quantity s p stop) ≡ refusedStep 8 p
-    unfolding fieldsAt
-    pairs-over e h = rw e (simp (lt-leb _ _ h))
-
-    pub pairs-bad : countAt s p stop pairLimit ≡ read q k → q + 4 * k ≤ stop → basesFit (pairsAt s k q) ≡ false
-        → fieldsStep (fieldsAt quantity s p stop) ≡ refusedStep 10 p
-    unfolding fieldsAt
-    pairs-bad e h b = rw e (simp (le-leb _ _ h, b))
-
-    pub pairs-read : countAt s p stop pairLimit ≡ read q k → q + 4 * k ≤ stop → basesFit (pairsAt s k q) ≡ true
-        → fieldsStep (fieldsAt quantity s p stop) ≡ readStep (q + 4 * k) k 0
-    unfolding fieldsAt countOf childCount
-    pairs-read e h b = rw e (simp (le-leb _ _ h, b, length-pairsAt s k q))
-
-    pub array-over : countAt s p stop dimensionLimit ≡ read q k → stop < q + 4 * k → fieldsStep (fieldsAt array s p stop) ≡ refusedStep 8 p
-    unfolding fieldsAt
-    array-over e h = rw e (simp (lt-leb _ _ h))
-
-    pub array-bad : countAt s p stop dimensionLimit ≡ read q k → q + 4 * k ≤ stop → wordsFit s k q ≡ false
-        → fieldsStep (fieldsAt array s p stop) ≡ refusedStep 10 p
-    unfolding fieldsAt
-    array-bad e h b = rw e (simp (le-leb _ _ h, b))
-
-    pub array-read : countAt s p stop dimensionLimit ≡ read q k → q + 4 * k ≤ stop → wordsFit s k q ≡ true
-        → fieldsStep (fieldsAt array s p stop) ≡ readStep (q + 4 * k) k 1
-    unfolding fieldsAt countOf childCount
-    array-read e h b = rw e (simp (le-leb _ _ h, b))
-
     -- an enumeration's count and items are read, up to `at`
     module _ (e : countAt s p stop countLimit ≡ read q k) (at : ℕ) (xs : List (List ℕ)) (i : itemsAt s p stop k q ≡ read at xs) where
       pub items-even : (at - p) % 2 ≡ 0 → fieldsStep (fieldsAt enumeration s p stop) ≡ readStep at (length xs) 0
@@ -78,3 +51,46 @@ module _ (s : List ℕ) (p stop : ℕ) where
       pub fill-read : ((at - p) % 2 ≡ 0 → ⊥) → at < stop → getD s at 0 ≡ 0 → fieldsStep (fieldsAt enumeration s p stop) ≡ readStep (at + 1) (length xs) 0
       unfolding fieldsAt fillAt countOf childCount
       fill-read h g z = rw (e, i) (simp (ne-eqb _ _ h, lt-ltb _ _ g, eq-eqb _ _ z))
+
+-- A count and its words, and what comes of them where each is judged by `test` and they say `make`: unit pairs and dimension words alike.
+module _ (s : List ℕ) (p stop most : ℕ) where
+  -- where the words end
+  pub run-range : Holds (λ q k. (q ≡ p + 6 + 4 * k) × (q ≤ stop)) (runAt s p stop most)
+  unfolding runAt
+  run-range =
+      holds-andThen (count-fits s p stop most) (λ at k c.
+      holds-require (leb (at + 4 * k) stop) 8 p (λ room. found (omega (arith, c .at), leb-true _ _ room)))
+
+  module _ (test : ℕ → ℕ → Bool) (make : ℕ → ℕ → Fields) where
+    -- the fields, as the check has them
+    abbrev pub runFields : Outcome Fields
+    runFields =
+        andThen (countAt s p stop most)
+        (λ at k. require (leb (at + 4 * k) stop) 8 p (require (test k at) 10 p (read (at + 4 * k) (make k at))))
+
+    -- what comes after the words
+    abbrev after : ℕ → ℕ → Outcome Fields
+    after next k = require (test k (p + 6)) 10 p (read next (make k (p + 6)))
+
+    -- the fields are the words, and what comes after them
+    pub run-first : runFields ≡ andThen (runAt s p stop most) after
+    unfolding runAt
+    run-first = go (countAt s p stop most) (count-fits s p stop most)
+      where
+        go : (o : Outcome ℕ) → Holds (λ q k. CountFits s p stop most q k) o
+            → andThen o (λ at k. require (leb (at + 4 * k) stop) 8 p (require (test k at) 10 p (read (at + 4 * k) (make k at))))
+            ≡ andThen (andThen o (λ at k. require (leb (at + 4 * k) stop) 8 p (read (at + 4 * k) k))) after
+        go (refused number place) h = refl
+        go (read q k) h = either (leb (q + 4 * k) stop)
+          where
+            either : (b : Bool)
+                → require b 8 p (require (test k q) 10 p (read (q + 4 * k) (make k q))) ≡ andThen (require b 8 p (read (q + 4 * k) k)) after
+            either true = ap (λ (j : ℕ). require (test k j) 10 p (read (q + 4 * k) (make k j))) (holds-read refl h .at)
+            either false = refl
+
+    module _ (q k : ℕ) (e : runAt s p stop most ≡ read q k) where
+      pub run-bad : test k (p + 6) ≡ false → fieldsStep runFields ≡ refusedStep 10 p
+      run-bad b = ap (λ (o : Outcome Fields). fieldsStep o) (run-first ∙ ap (λ (o : Outcome ℕ). andThen o after) e) ∙ rw b refl
+
+      pub run-read : test k (p + 6) ≡ true → fieldsStep runFields ≡ readStep q (countOf (make k (p + 6))) (childCount (make k (p + 6)))
+      run-read b = ap (λ (o : Outcome Fields). fieldsStep o) (run-first ∙ ap (λ (o : Outcome ℕ). andThen o after) e) ∙ rw b refl

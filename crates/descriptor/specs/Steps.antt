@@ -1,10 +1,12 @@
 -- The outcomes of the readings as the structs that the code hands on: a refusal, or what was read by its counts alone.
 use mathlib.Core.Bool.{Bool, true, false}
-use Prim.Native.Nat.{ℕ}
+use mathlib.Core.List.{List}
+use Prim.Native.Nat.{ℕ, _+_, _*_}
+use lib.Dec.{leb}
 use Rattle.descriptor.specs.Codes.{Kind, plain, enumeration, quantity, string, array, cluster, unknown}
 use Rattle.descriptor.specs.Tree.{Fields, countOf, childCount}
-use Rattle.descriptor.specs.Outcome.{Outcome, refused, read}
-use Rattle.descriptor.specs.Check.{Header}
+use Rattle.descriptor.specs.Outcome.{Outcome, refused, read, andThen, require}
+use Rattle.descriptor.specs.Check.{Header, countAt}
 use Rattle.descriptor.specs.declared.step.Step.{Step}
 use Rattle.descriptor.specs.declared.header.Head.{Head}
 
@@ -17,6 +19,10 @@ kindNumber quantity = 3
 kindNumber string = 4
 kindNumber array = 5
 kindNumber cluster = 6
+
+-- the part that unit pairs and dimension words share: a count, and that many words of four bytes after it
+unfoldable pub runAt : List ℕ → ℕ → ℕ → ℕ → Outcome ℕ
+runAt s p stop most = andThen (countAt s p stop most) (λ at k. require (leb (at + 4 * k) stop) 8 p (read (at + 4 * k) k))
 
 abbrev pub refusedStep : ℕ → ℕ → Step
 refusedStep number place = record { ok = false; number = number; place = place; next = 0; count = 0; children = 0 }

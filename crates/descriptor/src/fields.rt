@@ -13,9 +13,10 @@ use number::endian::wide;
 ghost use mathlib.Core.Path.{_≡_};
 ghost use Prim.Native.Nat.{_+_, _*_, _≤_};
 ghost use lib.ListN.{length};
+ghost use Rattle.descriptor.specs.Limits.{countLimit};
 ghost use Rattle.descriptor.specs.Codes.{kindOf, enumeration, quantity, string, array, cluster};
 ghost use Rattle.descriptor.specs.Check.{countAt, itemsAt, pairsAt, basesFit, wordsFit, fieldsAt};
-ghost use Rattle.descriptor.specs.Steps.{counted, fieldsStep, kindNumber};
+ghost use Rattle.descriptor.specs.Steps.{runAt, counted, fieldsStep, kindNumber};
 ghost use Rattle.descriptor.specs.Promises.{Within, Run};
 
 // The count at the body's first word: 8 where it is missing, 9 where it is not from 1 to `most`.
@@ -117,12 +118,13 @@ fn words_fit(d: &[u8], k: usize, start: usize) -> bool
     true
 }
 
-// A physical quantity's unit pairs.
-fn quantity_fields(d: &[u8], p: usize, stop: usize) -> Step
+// A count and that many words of four bytes after it: 8 where one is missing.
+fn counted_words(d: &[u8], p: usize, stop: usize, most: usize) -> Step
     requires { ⌜ Within (now d) p stop ⌝ }
-    ensures { λ r. ⌜ r ≡ fieldsStep (fieldsAt quantity (now (d .entry)) p stop) ⌝ }
+    requires { ⌜ most ≤ countLimit ⌝ }
+    ensures { λ r. ⌜ r ≡ counted (λ k. k) (runAt (now (d .entry)) p stop most) ⌝ }
 {
-    let c = count_word(d, p, stop, PAIR_LIMIT);
+    let c = count_word(d, p, stop, most);
     if !c.ok {
         return c;
     }
@@ -130,10 +132,22 @@ fn quantity_fields(d: &[u8], p: usize, stop: usize) -> Step
     if stop < next {
         return refuse(8, p);
     }
-    if !bases_fit(d, c.count, c.next) {
+    accept(next, c.count, 0)
+}
+
+// A physical quantity's unit pairs.
+fn quantity_fields(d: &[u8], p: usize, stop: usize) -> Step
+    requires { ⌜ Within (now d) p stop ⌝ }
+    ensures { λ r. ⌜ r ≡ fieldsStep (fieldsAt quantity (now (d .entry)) p stop) ⌝ }
+{
+    let c = counted_words(d, p, stop, PAIR_LIMIT);
+    if !c.ok {
+        return c;
+    }
+    if !bases_fit(d, c.count, p + 6) {
         return refuse(10, p);
     }
-    accept(next, c.count, 0)
+    accept(c.next, c.count, 0)
 }
 
 // A string's length word.
@@ -155,18 +169,14 @@ fn array_fields(d: &[u8], p: usize, stop: usize) -> Step
     requires { ⌜ Within (now d) p stop ⌝ }
     ensures { λ r. ⌜ r ≡ fieldsStep (fieldsAt array (now (d .entry)) p stop) ⌝ }
 {
-    let c = count_word(d, p, stop, DIMENSION_LIMIT);
+    let c = counted_words(d, p, stop, DIMENSION_LIMIT);
     if !c.ok {
         return c;
     }
-    let next = c.next + 4 * c.count;
-    if stop < next {
-        return refuse(8, p);
-    }
-    if !words_fit(d, c.count, c.next) {
+    if !words_fit(d, c.count, p + 6) {
         return refuse(10, p);
     }
-    accept(next, c.count, 1)
+    accept(c.next, c.count, 1)
 }
 
 // A cluster's member count; its members follow.

@@ -1,64 +1,89 @@
--- `array_fields` reads the fields: each return by the count and the tests that lead to it. Assumes nothing.
+-- `array_fields` judges the words that its count calls for. Assumes nothing.
 use mathlib.Core.Path.{_≡_, refl, sym, ap, _∙_}
 use native.Mathlib.Omega.{arith}
 use denote.Ref.{now}
 use borrow.Author.Needs.{needs}
-use borrow.Author.Tests.{eq-eqb, ne-eqb, le-leb, lt-leb, lt-ltb, le-ltb, not-true, not-false}
-use Rattle.descriptor.specs.Limits.{dimensionLimit, pairLimit, countLimit}
-use Rattle.descriptor.specs.Tree.{countOf, childCount}
-use Rattle.descriptor.specs.Check.{countAt, itemsAt, fieldsAt}
+use borrow.Author.Tests.{le-leb, lt-leb, not-true, not-false}
+use Prim.Native.Nat.{_+_}
+use Rattle.descriptor.specs.Limits.{dimensionLimit}
+use Rattle.descriptor.specs.Outcome.{read}
+use Rattle.descriptor.specs.Steps.{runAt, readStep, fieldsStep}
+use Rattle.descriptor.proofs.Outcomes.{holds-read}
 use Rattle.descriptor.proofs.Steps.{got, lost, stopped}
-use Rattle.descriptor.proofs.FieldSteps.{count-got, count-range, array-over, array-bad, array-read}
+use Rattle.descriptor.proofs.FieldSteps.{run-range, run-first, run-bad, run-read}
+use Rattle.descriptor.specs.Tree.{dimensions, countOf, childCount}
+use Rattle.descriptor.specs.Check.{wordsFit, fieldsAt}
 use borrow.Author.Needs.{needs}
 use Rattle.descriptor.proofs.fields.array_fields.Statement.{statement}
 use Rattle.descriptor.proofs.fields.array_fields.Tie as tie
 
-count-word-requires : tie.Need-count-word-requires
-count-word-requires c κs = search needs
+counted-words-requires : tie.Need-counted-words-requires
+counted-words-requires c κs = search needs
 
 returns : tie.Need-returns
 unfolding fieldsAt
-returns c = stopped countOf childCount (countAt (now (c .before .before .before .before .args .d)) (c .before .before .before .before .args .p) (c .before .before .before .before .args .stop) dimensionLimit) _ (c .before .before .count-word .result) (lost (λ k. k) (λ _. 0) _ (c .before .before .count-word .result) (c .before .before .count-word .ensures) (not-true _ (c .if1 .taken)))
+returns c = let s = now (c .before .before .before .before .args .d) in
+    let p = c .before .before .before .before .args .p in
+    let stop = c .before .before .before .before .args .stop in
+    let words = c .before .before .counted-words in
+    stopped countOf childCount (runAt s p stop dimensionLimit) _ (words .result) (lost (λ k. k) (λ _. 0) _ (words .result) (words .ensures) (not-true _ (c .if1 .taken)))
+    ∙ ap fieldsStep (sym (run-first s p stop dimensionLimit (λ k at. wordsFit s k at) (λ k at. dimensions k)))
 
-mul-next : tie.Need-mul-next
-mul-next c = omega (arith, (count-range (now (c .before .before .before .before .before .args .d)) (c .before .before .before .before .before .args .p) (c .before .before .before .before .before .args .stop) dimensionLimit (c .before .before .before .count-word .result) (c .before .before .before .count-word .ensures) (not-false _ (c .before .if1 .left))) .limit)
+add-words-fit : tie.Need-add-words-fit
+add-words-fit c = let s = now (c .before .before .before .before .args .d) in
+    let p = c .before .before .before .before .args .p in
+    let stop = c .before .before .before .before .args .stop in
+    let words = c .before .before .counted-words in
+    let e = got (λ k. k) (λ _. 0) (runAt s p stop dimensionLimit) (words .result) (words .ensures) (not-false _ (c .if1 .left)) in
+    let read-words : runAt s p stop dimensionLimit ≡ read (words .result .next) (words .result .count) = e .eq ∙ ap (λ k. read (words .result .next) k) (sym (e .counts)) in
+    let range = holds-read read-words (run-range s p stop dimensionLimit) in
+    omega (arith, range .0, range .1, c .before .before .before .before .pre .inside, c .before .before .before .before .pre .small)
 
-add-next : tie.Need-add-next
-add-next c = omega (arith, (count-range (now (c .before .before .before .before .before .before .args .d)) (c .before .before .before .before .before .before .args .p) (c .before .before .before .before .before .before .args .stop) dimensionLimit (c .before .before .before .before .count-word .result) (c .before .before .before .before .count-word .ensures) (not-false _ (c .before .before .if1 .left))) .limit, (count-range (now (c .before .before .before .before .before .before .args .d)) (c .before .before .before .before .before .before .args .p) (c .before .before .before .before .before .before .args .stop) dimensionLimit (c .before .before .before .before .count-word .result) (c .before .before .before .before .count-word .ensures) (not-false _ (c .before .before .if1 .left))) .at, c .before .before .before .before .before .before .pre .from, c .before .before .before .before .before .before .pre .inside, c .before .before .before .before .before .before .pre .small)
+words-fit-requires : tie.Need-words-fit-requires
+words-fit-requires c κs = let s = now (c .before .before .before .before .args .d) in
+    let p = c .before .before .before .before .args .p in
+    let stop = c .before .before .before .before .args .stop in
+    let words = c .before .before .counted-words in
+    let e = got (λ k. k) (λ _. 0) (runAt s p stop dimensionLimit) (words .result) (words .ensures) (not-false _ (c .if1 .left)) in
+    let read-words : runAt s p stop dimensionLimit ≡ read (words .result .next) (words .result .count) = e .eq ∙ ap (λ k. read (words .result .next) k) (sym (e .counts)) in
+    let range = holds-read read-words (run-range s p stop dimensionLimit) in
+    record { inside = omega (arith, range .0, range .1, c .before .before .before .before .pre .inside); small = c .before .before .before .before .pre .small }
 
 refuse-requires : tie.Need-refuse-requires
 refuse-requires c κs = search needs
 
 returns-2 : tie.Need-returns-2
-returns-2 c = c .refuse .ensures ∙ sym (array-over (now (c .before .before .before .before .before .before .before .before .args .d)) (c .before .before .before .before .before .before .before .before .args .p) (c .before .before .before .before .before .before .before .before .args .stop) (c .before .before .before .before .before .before .count-word .result .next) (c .before .before .before .before .before .before .count-word .result .count) (count-got (now (c .before .before .before .before .before .before .before .before .args .d)) (c .before .before .before .before .before .before .before .before .args .p) (c .before .before .before .before .before .before .before .before .args .stop) dimensionLimit (c .before .before .before .before .before .before .count-word .result) (c .before .before .before .before .before .before .count-word .ensures) (not-false _ (c .before .before .before .before .if1 .left))) (c .before .if2 .taken))
-
-words-fit-requires : tie.Need-words-fit-requires
-words-fit-requires c κs = record { inside = omega (arith, c .if2 .left, c .before .before .before .before .before .before .before .pre .inside); small = c .before .before .before .before .before .before .before .pre .small }
-
-refuse-requires-2 : tie.Need-refuse-requires-2
-refuse-requires-2 c κs = search needs
-
-returns-3 : tie.Need-returns-3
-returns-3 c = c .refuse2 .ensures ∙ sym (array-bad (now (c .before .before .before .before .before .before .before .before .before .before .args .d)) (c .before .before .before .before .before .before .before .before .before .before .args .p) (c .before .before .before .before .before .before .before .before .before .before .args .stop) (c .before .before .before .before .before .before .before .before .count-word .result .next) (c .before .before .before .before .before .before .before .before .count-word .result .count) (count-got (now (c .before .before .before .before .before .before .before .before .before .before .args .d)) (c .before .before .before .before .before .before .before .before .before .before .args .p) (c .before .before .before .before .before .before .before .before .before .before .args .stop) dimensionLimit (c .before .before .before .before .before .before .before .before .count-word .result) (c .before .before .before .before .before .before .before .before .count-word .ensures) (not-false _ (c .before .before .before .before .before .before .if1 .left))) (c .before .before .before .if2 .left) (sym (c .before .before .words-fit .ensures) ∙ not-true _ (c .before .if3 .taken)))
+unfolding fieldsAt
+returns-2 c = let s = now (c .before .before .before .before .before .before .before .args .d) in
+    let p = c .before .before .before .before .before .before .before .args .p in
+    let stop = c .before .before .before .before .before .before .before .args .stop in
+    let words = c .before .before .before .before .before .counted-words in
+    let e = got (λ k. k) (λ _. 0) (runAt s p stop dimensionLimit) (words .result) (words .ensures) (not-false _ (c .before .before .before .if1 .left)) in
+    let read-words : runAt s p stop dimensionLimit ≡ read (words .result .next) (words .result .count) = e .eq ∙ ap (λ k. read (words .result .next) k) (sym (e .counts)) in
+    c .refuse .ensures ∙ sym (run-bad s p stop dimensionLimit (λ k at. wordsFit s k at) (λ k at. dimensions k) (words .result .next) (words .result .count) read-words (sym (c .before .before .words-fit .ensures) ∙ not-true _ (c .before .if2 .taken)))
 
 accept-requires : tie.Need-accept-requires
 accept-requires c κs = search needs
 
-returns-4 : tie.Need-returns-4
-returns-4 c = c .accept .ensures ∙ sym (array-read (now (c .before .before .before .before .before .before .before .before .before .before .args .d)) (c .before .before .before .before .before .before .before .before .before .before .args .p) (c .before .before .before .before .before .before .before .before .before .before .args .stop) (c .before .before .before .before .before .before .before .before .count-word .result .next) (c .before .before .before .before .before .before .before .before .count-word .result .count) (count-got (now (c .before .before .before .before .before .before .before .before .before .before .args .d)) (c .before .before .before .before .before .before .before .before .before .before .args .p) (c .before .before .before .before .before .before .before .before .before .before .args .stop) dimensionLimit (c .before .before .before .before .before .before .before .before .count-word .result) (c .before .before .before .before .before .before .before .before .count-word .ensures) (not-false _ (c .before .before .before .before .before .before .if1 .left))) (c .before .before .before .if2 .left) (sym (c .before .before .words-fit .ensures) ∙ not-false _ (c .before .if3 .left)))
+returns-3 : tie.Need-returns-3
+unfolding fieldsAt countOf childCount
+returns-3 c = let s = now (c .before .before .before .before .before .before .before .args .d) in
+    let p = c .before .before .before .before .before .before .before .args .p in
+    let stop = c .before .before .before .before .before .before .before .args .stop in
+    let words = c .before .before .before .before .before .counted-words in
+    let e = got (λ k. k) (λ _. 0) (runAt s p stop dimensionLimit) (words .result) (words .ensures) (not-false _ (c .before .before .before .if1 .left)) in
+    let read-words : runAt s p stop dimensionLimit ≡ read (words .result .next) (words .result .count) = e .eq ∙ ap (λ k. read (words .result .next) k) (sym (e .counts)) in
+    c .accept .ensures ∙ ap (λ j. readStep (words .result .next) j 1) (sym (refl)) ∙ sym (run-read s p stop dimensionLimit (λ k at. wordsFit s k at) (λ k at. dimensions k) (words .result .next) (words .result .count) read-words (sym (c .before .before .words-fit .ensures) ∙ not-false _ (c .before .if2 .left)))
 
 pub array-fields-spec : {M : Type 1} → statement M
 array-fields-spec =
     tie.close
     (tie.spec
-    count-word-requires
+    counted-words-requires
     returns
-    mul-next
-    add-next
+    add-words-fit
+    words-fit-requires
     refuse-requires
     returns-2
-    words-fit-requires
-    refuse-requires-2
-    returns-3
     accept-requires
-    returns-4)
+    returns-3)

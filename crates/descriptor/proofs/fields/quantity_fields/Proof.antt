@@ -1,64 +1,90 @@
--- `quantity_fields` reads the fields: each return by the count and the tests that lead to it. Assumes nothing.
+-- `quantity_fields` judges the words that its count calls for. Assumes nothing.
 use mathlib.Core.Path.{_≡_, refl, sym, ap, _∙_}
 use native.Mathlib.Omega.{arith}
 use denote.Ref.{now}
 use borrow.Author.Needs.{needs}
-use borrow.Author.Tests.{eq-eqb, ne-eqb, le-leb, lt-leb, lt-ltb, le-ltb, not-true, not-false}
-use Rattle.descriptor.specs.Limits.{dimensionLimit, pairLimit, countLimit}
-use Rattle.descriptor.specs.Tree.{countOf, childCount}
-use Rattle.descriptor.specs.Check.{countAt, itemsAt, fieldsAt}
+use borrow.Author.Tests.{le-leb, lt-leb, not-true, not-false}
+use Prim.Native.Nat.{_+_}
+use Rattle.descriptor.specs.Limits.{pairLimit}
+use Rattle.descriptor.specs.Outcome.{read}
+use Rattle.descriptor.specs.Steps.{runAt, readStep, fieldsStep}
+use Rattle.descriptor.proofs.Outcomes.{holds-read}
 use Rattle.descriptor.proofs.Steps.{got, lost, stopped}
-use Rattle.descriptor.proofs.FieldSteps.{count-got, count-range, pairs-over, pairs-bad, pairs-read}
+use Rattle.descriptor.proofs.FieldSteps.{run-range, run-first, run-bad, run-read}
+use Rattle.descriptor.specs.Tree.{pairs, countOf, childCount}
+use Rattle.descriptor.specs.Check.{pairsAt, basesFit, fieldsAt}
+use Rattle.descriptor.proofs.Sizes.{length-pairsAt}
 use borrow.Author.Needs.{needs}
 use Rattle.descriptor.proofs.fields.quantity_fields.Statement.{statement}
 use Rattle.descriptor.proofs.fields.quantity_fields.Tie as tie
 
-count-word-requires : tie.Need-count-word-requires
-count-word-requires c κs = search needs
+counted-words-requires : tie.Need-counted-words-requires
+counted-words-requires c κs = search needs
 
 returns : tie.Need-returns
 unfolding fieldsAt
-returns c = stopped countOf childCount (countAt (now (c .before .before .before .before .args .d)) (c .before .before .before .before .args .p) (c .before .before .before .before .args .stop) pairLimit) _ (c .before .before .count-word .result) (lost (λ k. k) (λ _. 0) _ (c .before .before .count-word .result) (c .before .before .count-word .ensures) (not-true _ (c .if1 .taken)))
+returns c = let s = now (c .before .before .before .before .args .d) in
+    let p = c .before .before .before .before .args .p in
+    let stop = c .before .before .before .before .args .stop in
+    let words = c .before .before .counted-words in
+    stopped countOf childCount (runAt s p stop pairLimit) _ (words .result) (lost (λ k. k) (λ _. 0) _ (words .result) (words .ensures) (not-true _ (c .if1 .taken)))
+    ∙ ap fieldsStep (sym (run-first s p stop pairLimit (λ k at. basesFit (pairsAt s k at)) (λ k at. pairs (pairsAt s k at))))
 
-mul-next : tie.Need-mul-next
-mul-next c = omega (arith, (count-range (now (c .before .before .before .before .before .args .d)) (c .before .before .before .before .before .args .p) (c .before .before .before .before .before .args .stop) pairLimit (c .before .before .before .count-word .result) (c .before .before .before .count-word .ensures) (not-false _ (c .before .if1 .left))) .limit)
+add-bases-fit : tie.Need-add-bases-fit
+add-bases-fit c = let s = now (c .before .before .before .before .args .d) in
+    let p = c .before .before .before .before .args .p in
+    let stop = c .before .before .before .before .args .stop in
+    let words = c .before .before .counted-words in
+    let e = got (λ k. k) (λ _. 0) (runAt s p stop pairLimit) (words .result) (words .ensures) (not-false _ (c .if1 .left)) in
+    let read-words : runAt s p stop pairLimit ≡ read (words .result .next) (words .result .count) = e .eq ∙ ap (λ k. read (words .result .next) k) (sym (e .counts)) in
+    let range = holds-read read-words (run-range s p stop pairLimit) in
+    omega (arith, range .0, range .1, c .before .before .before .before .pre .inside, c .before .before .before .before .pre .small)
 
-add-next : tie.Need-add-next
-add-next c = omega (arith, (count-range (now (c .before .before .before .before .before .before .args .d)) (c .before .before .before .before .before .before .args .p) (c .before .before .before .before .before .before .args .stop) pairLimit (c .before .before .before .before .count-word .result) (c .before .before .before .before .count-word .ensures) (not-false _ (c .before .before .if1 .left))) .limit, (count-range (now (c .before .before .before .before .before .before .args .d)) (c .before .before .before .before .before .before .args .p) (c .before .before .before .before .before .before .args .stop) pairLimit (c .before .before .before .before .count-word .result) (c .before .before .before .before .count-word .ensures) (not-false _ (c .before .before .if1 .left))) .at, c .before .before .before .before .before .before .pre .from, c .before .before .before .before .before .before .pre .inside, c .before .before .before .before .before .before .pre .small)
+bases-fit-requires : tie.Need-bases-fit-requires
+bases-fit-requires c κs = let s = now (c .before .before .before .before .args .d) in
+    let p = c .before .before .before .before .args .p in
+    let stop = c .before .before .before .before .args .stop in
+    let words = c .before .before .counted-words in
+    let e = got (λ k. k) (λ _. 0) (runAt s p stop pairLimit) (words .result) (words .ensures) (not-false _ (c .if1 .left)) in
+    let read-words : runAt s p stop pairLimit ≡ read (words .result .next) (words .result .count) = e .eq ∙ ap (λ k. read (words .result .next) k) (sym (e .counts)) in
+    let range = holds-read read-words (run-range s p stop pairLimit) in
+    record { inside = omega (arith, range .0, range .1, c .before .before .before .before .pre .inside); small = c .before .before .before .before .pre .small }
 
 refuse-requires : tie.Need-refuse-requires
 refuse-requires c κs = search needs
 
 returns-2 : tie.Need-returns-2
-returns-2 c = c .refuse .ensures ∙ sym (pairs-over (now (c .before .before .before .before .before .before .before .before .args .d)) (c .before .before .before .before .before .before .before .before .args .p) (c .before .before .before .before .before .before .before .before .args .stop) (c .before .before .before .before .before .before .count-word .result .next) (c .before .before .before .before .before .before .count-word .result .count) (count-got (now (c .before .before .before .before .before .before .before .before .args .d)) (c .before .before .before .before .before .before .before .before .args .p) (c .before .before .before .before .before .before .before .before .args .stop) pairLimit (c .before .before .before .before .before .before .count-word .result) (c .before .before .before .before .before .before .count-word .ensures) (not-false _ (c .before .before .before .before .if1 .left))) (c .before .if2 .taken))
-
-bases-fit-requires : tie.Need-bases-fit-requires
-bases-fit-requires c κs = record { inside = omega (arith, c .if2 .left, c .before .before .before .before .before .before .before .pre .inside); small = c .before .before .before .before .before .before .before .pre .small }
-
-refuse-requires-2 : tie.Need-refuse-requires-2
-refuse-requires-2 c κs = search needs
-
-returns-3 : tie.Need-returns-3
-returns-3 c = c .refuse2 .ensures ∙ sym (pairs-bad (now (c .before .before .before .before .before .before .before .before .before .before .args .d)) (c .before .before .before .before .before .before .before .before .before .before .args .p) (c .before .before .before .before .before .before .before .before .before .before .args .stop) (c .before .before .before .before .before .before .before .before .count-word .result .next) (c .before .before .before .before .before .before .before .before .count-word .result .count) (count-got (now (c .before .before .before .before .before .before .before .before .before .before .args .d)) (c .before .before .before .before .before .before .before .before .before .before .args .p) (c .before .before .before .before .before .before .before .before .before .before .args .stop) pairLimit (c .before .before .before .before .before .before .before .before .count-word .result) (c .before .before .before .before .before .before .before .before .count-word .ensures) (not-false _ (c .before .before .before .before .before .before .if1 .left))) (c .before .before .before .if2 .left) (sym (c .before .before .bases-fit .ensures) ∙ not-true _ (c .before .if3 .taken)))
+unfolding fieldsAt
+returns-2 c = let s = now (c .before .before .before .before .before .before .before .args .d) in
+    let p = c .before .before .before .before .before .before .before .args .p in
+    let stop = c .before .before .before .before .before .before .before .args .stop in
+    let words = c .before .before .before .before .before .counted-words in
+    let e = got (λ k. k) (λ _. 0) (runAt s p stop pairLimit) (words .result) (words .ensures) (not-false _ (c .before .before .before .if1 .left)) in
+    let read-words : runAt s p stop pairLimit ≡ read (words .result .next) (words .result .count) = e .eq ∙ ap (λ k. read (words .result .next) k) (sym (e .counts)) in
+    c .refuse .ensures ∙ sym (run-bad s p stop pairLimit (λ k at. basesFit (pairsAt s k at)) (λ k at. pairs (pairsAt s k at)) (words .result .next) (words .result .count) read-words (sym (c .before .before .bases-fit .ensures) ∙ not-true _ (c .before .if2 .taken)))
 
 accept-requires : tie.Need-accept-requires
 accept-requires c κs = search needs
 
-returns-4 : tie.Need-returns-4
-returns-4 c = c .accept .ensures ∙ sym (pairs-read (now (c .before .before .before .before .before .before .before .before .before .before .args .d)) (c .before .before .before .before .before .before .before .before .before .before .args .p) (c .before .before .before .before .before .before .before .before .before .before .args .stop) (c .before .before .before .before .before .before .before .before .count-word .result .next) (c .before .before .before .before .before .before .before .before .count-word .result .count) (count-got (now (c .before .before .before .before .before .before .before .before .before .before .args .d)) (c .before .before .before .before .before .before .before .before .before .before .args .p) (c .before .before .before .before .before .before .before .before .before .before .args .stop) pairLimit (c .before .before .before .before .before .before .before .before .count-word .result) (c .before .before .before .before .before .before .before .before .count-word .ensures) (not-false _ (c .before .before .before .before .before .before .if1 .left))) (c .before .before .before .if2 .left) (sym (c .before .before .bases-fit .ensures) ∙ not-false _ (c .before .if3 .left)))
+returns-3 : tie.Need-returns-3
+unfolding fieldsAt countOf childCount
+returns-3 c = let s = now (c .before .before .before .before .before .before .before .args .d) in
+    let p = c .before .before .before .before .before .before .before .args .p in
+    let stop = c .before .before .before .before .before .before .before .args .stop in
+    let words = c .before .before .before .before .before .counted-words in
+    let e = got (λ k. k) (λ _. 0) (runAt s p stop pairLimit) (words .result) (words .ensures) (not-false _ (c .before .before .before .if1 .left)) in
+    let read-words : runAt s p stop pairLimit ≡ read (words .result .next) (words .result .count) = e .eq ∙ ap (λ k. read (words .result .next) k) (sym (e .counts)) in
+    c .accept .ensures ∙ ap (λ j. readStep (words .result .next) j 0) (sym (length-pairsAt s (words .result .count) (p + 6))) ∙ sym (run-read s p stop pairLimit (λ k at. basesFit (pairsAt s k at)) (λ k at. pairs (pairsAt s k at)) (words .result .next) (words .result .count) read-words (sym (c .before .before .bases-fit .ensures) ∙ not-false _ (c .before .if2 .left)))
 
 pub quantity-fields-spec : {M : Type 1} → statement M
 quantity-fields-spec =
     tie.close
     (tie.spec
-    count-word-requires
+    counted-words-requires
     returns
-    mul-next
-    add-next
+    add-bases-fit
+    bases-fit-requires
     refuse-requires
     returns-2
-    bases-fit-requires
-    refuse-requires-2
-    returns-3
     accept-requires
-    returns-4)
+    returns-3)
