@@ -55,7 +55,7 @@ pair-refl : (x : Pair) → samePair x x ≡ true
 pair-refl x = both-true (eqb-refl (x .base)) (eqb-refl (x .exponent))
 
 -- so for a name
-name-same : (m n : Name) → sameName m n ≡ true → m ≡ n
+pub name-same : (m n : Name) → sameName m n ≡ true → m ≡ n
 unfolding sameName
 name-same unnamed unnamed e = refl
 name-same unnamed (named y) e = impossible e
@@ -63,7 +63,7 @@ name-same (named x) unnamed e = impossible e
 name-same (named x) (named y) e = ap named (chars-same x y e)
 
 -- and itself
-name-refl : (m : Name) → sameName m m ≡ true
+pub name-refl : (m : Name) → sameName m m ≡ true
 unfolding sameName
 name-refl unnamed = refl
 name-refl (named x) = chars-refl x

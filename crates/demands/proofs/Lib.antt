@@ -2,3 +2,13 @@ pub mod Accepted
 pub mod Equal
 pub mod Rows
 pub mod Frame
+pub mod Shape
+pub mod Pieces
+pub mod Moved
+pub mod Names
+pub mod Members
+pub mod Namesakes
+pub mod Reading
+pub mod Given
+pub mod Resolved
+pub mod Record

@@ -29,7 +29,7 @@ use Rattle.access.specs.Path.{memberAt, stepAt, spotAt}
 use Rattle.access.specs.Values.{ofSingle, ofDouble, valueOf, isValue, numberOf, readValue}
 use Rattle.access.specs.declared.value.Reading.{Reading}
 use Rattle.access.specs.declared.value.Value.the-variants.{Unsigned, Signed}
-use Rattle.resolution.specs.Record.{membersFrom, writerFields, isAmong, readerNames, readerFields, matches, namesakes, memberBytes, joinedBytes, resolved}
+use Rattle.resolution.specs.Record.{membersFrom, writerFields, isAmong, readerNames, readerFields, matches, namesakes, searched, searchNumber, memberFound, memberBytes, joinedBytes, resolved}
 
 -- a row by its seven numbers, in document 01's order
 abbrev row : ℕ → ℕ → ℕ → ℕ → ℕ → ℕ → ℕ → Row
@@ -114,5 +114,5 @@ pub cases : (descriptorCheck p1 ≡ withRows 1 (row 3 0 4 1 0 0 0 ∷ []))
     -- P12: with reader code 0003, 44 at 0; with name 026E 6F00, 42 at 0
     × (resolved rig (reader 3 105 100) sent (room 6) ≡ unwritten (room 6) 44 2 0)
     × (resolved rig (reader 7 110 111) sent (room 6) ≡ unwritten (room 6) 42 2 0)
-unfolding be beBytes signed kindOf childCount countOf itemsSize fieldsSize nameSize treeSize forestSize rowCount forestRows headerAt countAt itemAt itemsAt fillAt pairsAt basesFit wordsFit fieldsAt membersAt nameAt nodeAt treeAt checked namePlace nameLength rowOf rowsOf forestRowsOf zeroRows tableOf descriptorCheck writtenTo sameList sameName itemsOf pairsOf sameTree sameForest comparison widthOf numberAt scalarAt plainAt textAt sizesAt sizesFit product arrayAt repeat walkFields walk walkAll walked dataCheck reverseEach reverseToken reversed turned memberAt stepAt spotAt ofSingle ofDouble valueOf isValue numberOf readValue membersFrom writerFields isAmong readerNames readerFields matches namesakes memberBytes joinedBytes resolved
+unfolding be beBytes signed kindOf childCount countOf itemsSize fieldsSize nameSize treeSize forestSize rowCount forestRows headerAt countAt itemAt itemsAt fillAt pairsAt basesFit wordsFit fieldsAt membersAt nameAt nodeAt treeAt checked namePlace nameLength rowOf rowsOf forestRowsOf zeroRows tableOf descriptorCheck writtenTo sameList sameName itemsOf pairsOf sameTree sameForest comparison widthOf numberAt scalarAt plainAt textAt sizesAt sizesFit product arrayAt repeat walkFields walk walkAll walked dataCheck reverseEach reverseToken reversed turned memberAt stepAt spotAt ofSingle ofDouble valueOf isValue numberOf readValue membersFrom writerFields isAmong readerNames readerFields matches namesakes searched searchNumber memberFound memberBytes joinedBytes resolved
 cases = (refl, refl, refl, refl, refl, refl, refl, refl, refl, refl, refl, refl, refl, refl, refl, refl, refl, refl, refl)

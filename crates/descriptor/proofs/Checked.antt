@@ -21,7 +21,7 @@ use Rattle.descriptor.specs.declared.step.Step.{Step}
 use Rattle.descriptor.specs.declared.answer.Row.{Row}
 use Rattle.descriptor.specs.declared.answer.Answer.{Answer}
 use Rattle.descriptor.specs.declared.answer.Checked.{Checked}
-use Rattle.descriptor.specs.declared.table.Table.{Table}
+use Rattle.descriptor.specs.Filling.{Table}
 use Rattle.descriptor.proofs.Outcomes.{Holds, found, holds-read, holds-andThen, holds-self}
 use Rattle.descriptor.proofs.Sizes.{header-fits}
 use Rattle.descriptor.proofs.Rows.{rows-length}
@@ -108,11 +108,11 @@ module _ (s : List ℕ) (q : ℕ) (t : Tree) (e : checked s ≡ read q t) (rows 
       ∙ stored (rowsOf 0 1 t) (omega (arith, rows-length t 0 1, few-rows))
 
   -- the answer
-  pub check-accepted : (n : ℕ) → n ≡ rowCount t → (answer : Answer) → answer ≡ refusal 0 0 n → rows ≡ zeroRows → (v : Table) → v ≡ filled s depthLimit 1 emptyTable
-      → record { answer = answer; rows = v .rows } ≡ descriptorCheck s
+  pub check-accepted : (n : ℕ) → n ≡ rowCount t → (answer : Answer) → answer ≡ refusal 0 0 n → rows ≡ zeroRows → (v : List Row) → v ≡ filled s depthLimit 1 emptyTable .rows
+      → record { answer = answer; rows = v } ≡ descriptorCheck s
   unfolding descriptorCheck
   check-accepted n en answer ea z v ev =
-      (λ i. record { answer = (ea ∙ ap (λ (j : ℕ). accepted j) en) i; rows = (ap (λ (x : Table). x .rows) ev ∙ table-filled z) i }) ∙ rw e refl
+      (λ i. record { answer = (ea ∙ ap (λ (j : ℕ). accepted j) en) i; rows = (ev ∙ table-filled z) i }) ∙ rw e refl
 
 pub check-refused : (s : List ℕ) (number place : ℕ) → checked s ≡ refused number place → (answer : Answer) → answer ≡ refusal number 1 place → (rows : List Row)
     → rows ≡ zeroRows → record { answer = answer; rows = rows } ≡ descriptorCheck s

@@ -3,7 +3,6 @@ use mathlib.Core.Path.{_≡_, refl, ap, sym, subst, _∙_}
 use mathlib.Core.Bool.{Bool, true, false, cond, _||_}
 use mathlib.Core.List.{List, [], _∷_, _++_}
 use Prim.Native.Nat.{ℕ, zero, suc, _+_, _-_, _*_, _%_, _<_, _≤_}
-use native.Mathlib.Nat.{sub-zero}
 use native.Mathlib.Numerals.{add-one}
 use native.Mathlib.Omega.{arith}
 use borrow.Author.Tests.{eq-eqb, ne-eqb, eqb-true, eqb-false}
@@ -23,10 +22,9 @@ use Rattle.descriptor.specs.Filling.{rowRead, ahead, RowPre, TablePre, f
 use Rattle.descriptor.specs.Steps.{fieldsStep, readStep}
 use Rattle.descriptor.specs.declared.step.Step.{Step}
 use Rattle.descriptor.specs.declared.answer.Row.{Row}
-use Rattle.descriptor.specs.declared.table.Table.{Table}
+use Rattle.descriptor.specs.Filling.{Table}
 use Rattle.descriptor.proofs.Outcomes.{Holds, nothing, found, holds-require, holds-cond, holds-andThen, holds-read}
 use Rattle.descriptor.proofs.Sizes.{count-fits, items-end, length-pairsAt}
-use Rattle.descriptor.proofs.Runs.{one-less, none-left}
 use Rattle.descriptor.proofs.Rows.{rows-length}
 use Rattle.descriptor.proofs.Standing.{Opened, open-standing, row-split, row-none}
 use Rattle.descriptor.proofs.Steps.{impossible}
@@ -221,37 +219,6 @@ filled-none s left t =
     (ap (λ (f : Forest). sets (t .rows) (t .n) (forestRowsOf (t .at) (depthLimit + 1 - left) f)) none)
     (omega arith)
     (ap nextOf (row-none s (t .at)))
-
--- what the loop keeps: the table from here is the table from the start
-pub record FillLoop (s : List ℕ) (left k : ℕ) (start t : Table) (i : ℕ) : Type 0 where
-  pub most : i ≤ k
-  pub pre : TablePre s left (k - i) t
-  pub same : filled s left k start ≡ filled s left (k - i) t
-
-pub fill-begin : (s : List ℕ) (left k : ℕ) (t : Table) → TablePre s left k t → FillLoop s left k t t 0
-fill-begin s left k t pre = record {
-  most = omega arith;
-  pre = subst (λ (j : ℕ). TablePre s left j t) (sym (sub-zero k)) pre;
-  same = ap (λ (j : ℕ). filled s left j t) (sym (sub-zero k));
-}
-
--- one more to fill
-pub fill-pre : (s : List ℕ) (left k : ℕ) (start t : Table) (i : ℕ) → FillLoop s left k start t i → i < k → TablePre s left (suc (k - (i + 1))) t
-fill-pre s left k start t i l h = let d : k - i ≡ suc (k - (i + 1)) = omega arith in subst (λ (j : ℕ). TablePre s left j t) d (l .pre)
-
-pub fill-more : (s : List ℕ) (left k : ℕ) (start t : Table) (i : ℕ) (l : FillLoop s left k start t i) (h : i < k)
-    (w : First s left (k - (i + 1)) t) → (v : Table) → v ≡ afterTree left t (node (w .code) (w .fields) (w .inside) (w .name))
-    → FillLoop s left k start v (i + 1)
-fill-more s left k start t i l h w v e = record {
-  most = omega arith;
-  pre = subst (λ (x : Table). TablePre s left (k - (i + 1)) x) (sym e) (pre-rest s left (k - (i + 1)) t (fill-pre s left k start t i l h) w);
-  same =
-      l .same ∙ one-less (λ j. filled s left j t) k i h ∙ filled-more s left (k - (i + 1)) t (fill-pre s left k start t i l h) w
-      ∙ ap (λ (x : Table). filled s left (k - (i + 1)) x) (sym e);
-}
-
-pub fill-done : (s : List ℕ) (left k : ℕ) (start t : Table) (i : ℕ) → FillLoop s left k start t i → k ≤ i → t ≡ filled s left k start
-fill-done s left k start t i l h = sym (l .same ∙ none-left (λ j. filled s left j t) k i h ∙ filled-none s left t)
 
 -- a body's count fits a row
 pub fields-count : (k : Kind) (s : List ℕ) (p stop : ℕ) → stop ≤ length s → Holds (λ q b. countOf b ≤ countLimit) (fieldsAt k s p stop)

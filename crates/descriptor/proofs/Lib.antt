@@ -9,5 +9,6 @@ pub mod Sizes
 pub mod Standing
 pub mod Steps
 pub mod Filling
+pub mod Resuming
 pub mod Places
 pub mod Checked

@@ -11,7 +11,7 @@ use Rattle.descriptor.specs.Tree.{Forest, forestHeight, forestRows}
 use Rattle.descriptor.specs.Table.{forestRowsOf, zeroRows}
 use Rattle.descriptor.specs.Standing.{standingRow, isRead, nextOf, forestOf}
 use Rattle.descriptor.specs.declared.answer.Row.{Row}
-use Rattle.descriptor.specs.declared.table.Table.{Table}
+use Rattle.descriptor.specs.declared.table.Open.{Open}
 
 -- the row of a descriptor by its header, its count, and where what is left for a name starts
 unfoldable pub rowRead : List ℕ → ℕ → ℕ → ℕ → ℕ → ℕ → ℕ → Row
@@ -32,6 +32,12 @@ pub record RowPre (s : List ℕ) (depth p size count at : ℕ) : Type 0 where
   pub name : at ≤ p + size
   pub shallow : depth ≤ depthLimit
   pub counted : count ≤ countLimit
+
+-- the table so far: its rows, how many are filled, and where the next descriptor stands
+pub record Table : Type 0 where
+  pub rows : List Row
+  pub n : ℕ
+  pub at : ℕ
 
 -- the table with no row filled, at the first byte
 abbrev pub emptyTable : Table
@@ -57,3 +63,7 @@ filled s left k t = record {
   n = t .n + forestRows (ahead s k t);
   at = nextOf (standingRow s k (t .at));
 }
+
+-- no descriptor
+abbrev pub noneOpen : Open
+noneOpen = record { n = 0; start = 0; size = 0; count = 0; rest = 0; code = 0 }

@@ -19,8 +19,7 @@ pub fn check_descriptor(d: &[u8]) -> Checked
             rows: zero_rows(),
         };
     }
-    let t = tabulate(d);
+    let rows = tabulate(d);
     let answer = answered(0, 0, v.count);
-    let rows = t.rows;
     Checked { answer, rows }
 }

@@ -3,19 +3,11 @@ use super::answer::Row;
 use super::fields::fields;
 use super::header::code_at;
 use super::header::size_at;
-use super::limits::DEPTH_LIMIT;
 ghost use mathlib.Core.Path.{_≡_};
 ghost use Prim.Native.Nat.{_+_, _-_};
 ghost use Rattle.descriptor.specs.Limits.{depthLimit};
 ghost use Rattle.descriptor.specs.Table.{zeroRow, zeroRows};
-ghost use Rattle.descriptor.specs.Filling.{RowPre, TablePre, rowRead, emptyTable, filled};
-
-// The table so far: its rows, how many are filled, and where the next descriptor stands.
-pub struct Table {
-    pub rows: [Row; 256],
-    pub n: usize,
-    pub at: usize,
-}
+ghost use Rattle.descriptor.specs.Filling.{RowPre, TablePre, rowRead, emptyTable, noneOpen, filled};
 
 fn zero_row() -> Row
     ensures { λ r. ⌜ r ≡ zeroRow ⌝ }
@@ -65,50 +57,75 @@ fn row_at(d: &[u8], depth: usize, p: usize, code: u8, size: usize, count: usize,
     }
 }
 
-// Fills the rows of the k descriptors that stand in a row at `t.at`, with `left` levels of the depth left. It calls itself for a
-// descriptor that has children.
-fn tabulate_row(d: &[u8], left: usize, k: usize, mut t: Table) -> Table
-    requires { ⌜ TablePre (now d) left k t ⌝ }
-    ensures { λ r. ⌜ r ≡ filled (now (d .entry)) left k t ⌝ }
-{
-    let mut i = 0;
-    while i < k {
-        let p = t.at;
-        let n = t.n;
-        let size = size_at(d, p);
-        let code = code_at(d, p);
-        let b = fields(d, code, p, p + size);
-        t.at = b.next;
-        t.n = n + 1;
-        if 0 < b.children {
-            t = tabulate_row(d, left - 1, b.children, t);
-        }
-        t.rows[n] = row_at(d, DEPTH_LIMIT + 1 - left, p, code, size, b.count, t.at);
-        t.at = p + size;
-        i += 1;
-    }
-    t
+// A descriptor whose children are being filled: its row's number, what its row says, and how many descriptors stand after it in its row.
+pub struct Open {
+    pub n: usize,
+    pub start: usize,
+    pub size: usize,
+    pub count: usize,
+    pub rest: usize,
+    pub code: u8,
 }
 
-// The table of an accepted descriptor. Its own row is filled here and not as a row of one: that would carry the table through one call
-// more.
-pub fn tabulate(d: &[u8]) -> Table
-    requires { ⌜ TablePre (now d) depthLimit 1 emptyTable ⌝ }
-    ensures { λ r. ⌜ r ≡ filled (now (d .entry)) depthLimit 1 emptyTable ⌝ }
+fn none_open() -> Open
+    ensures { λ r. ⌜ r ≡ noneOpen ⌝ }
 {
-    let p = 0;
-    let size = size_at(d, p);
-    let code = code_at(d, p);
-    let b = fields(d, code, p, p + size);
-    let mut t = Table {
-        rows: zero_rows(),
-        n: 1,
-        at: b.next,
-    };
-    if 0 < b.children {
-        t = tabulate_row(d, DEPTH_LIMIT - 1, b.children, t);
+    Open {
+        n: 0,
+        start: 0,
+        size: 0,
+        count: 0,
+        rest: 0,
+        code: 0,
     }
-    t.rows[0] = row_at(d, 1, p, code, size, b.count, t.at);
-    t.at = p + size;
-    t
+}
+
+// The rows of an accepted descriptor. The descriptors whose children are being filled lie in `open`, the top first; k stand ahead at `at`
+// in the innermost.
+pub fn tabulate(d: &[u8]) -> [Row; 256]
+    requires { ⌜ TablePre (now d) depthLimit 1 emptyTable ⌝ }
+    ensures { λ r. ⌜ r ≡ filled (now (d .entry)) depthLimit 1 emptyTable .rows ⌝ }
+{
+    let mut rows = zero_rows();
+    let mut open = [none_open(); 8];
+    let mut n = 0;
+    let mut at = 0;
+    let mut level = 0;
+    let mut k = 1;
+    loop {
+        if k == 0 {
+            if level == 0 {
+                return rows;
+            }
+            level -= 1;
+            let o = open[level];
+            let m = o.n;
+            rows[m] = row_at(d, level + 1, o.start, o.code, o.size, o.count, at);
+            at = o.start + o.size;
+            k = o.rest;
+        } else {
+            let size = size_at(d, at);
+            let code = code_at(d, at);
+            let b = fields(d, code, at, at + size);
+            if 0 < b.children {
+                open[level] = Open {
+                    n,
+                    start: at,
+                    size,
+                    count: b.count,
+                    rest: k - 1,
+                    code,
+                };
+                level += 1;
+                n += 1;
+                at = b.next;
+                k = b.children;
+            } else {
+                rows[n] = row_at(d, level + 1, at, code, size, b.count, b.next);
+                n += 1;
+                at += size;
+                k -= 1;
+            }
+        }
+    }
 }

@@ -2,9 +2,11 @@
 -- "Here and in demand 3 a member stands directly in the top cluster, not deeper."
 use mathlib.Core.Bool.{Bool, true, false, not, cond}
 use mathlib.Core.List.{List, [], _∷_, _++_}
-use Prim.Native.Nat.{ℕ, zero, suc, _+_}
+use Prim.Native.Nat.{ℕ, _+_}
+use lib.Dec.{eqb}
+use lib.ListN.{take}
 use lib.Seq.{slice}
-use Rattle.descriptor.specs.Tree.{Name, unnamed, named, Fields, empty, items, pairs, text, dimensions, members, Tree, node, Forest, nil, cons, treeSize, fieldsSize}
+use Rattle.descriptor.specs.Tree.{unnamed, named, Fields, empty, items, pairs, text, dimensions, members, Tree, node, Forest, nil, cons, treeSize, fieldsSize}
 use Rattle.descriptor.specs.Table.{rowOf}
 use Rattle.descriptor.specs.Outcome.{Outcome, refused, read, andThen, require, judge}
 use Rattle.descriptor.specs.Check.{checked}
@@ -94,12 +96,16 @@ searchNumber Missing = 42
 searchNumber Doubled = 43
 searchNumber (Found row) = 0
 
--- The bytes of the reader's member t, number j, given its namesakes: "Only a member found exactly once is compared further"; 44 where
--- "the two members' descriptors are not equal".
+-- The rig's member that the reader's member t, number j, is read from, given its namesakes: "Only a member found exactly once is compared
+-- further"; 44 where "the two members' descriptors are not equal".
+unfoldable pub memberFound : ℕ → Tree → List Member → Outcome Member
+memberFound j t [] = refused (searchNumber (searched [])) j
+memberFound j t (m ∷ []) = require (sameTree t (m .type)) 44 j (read (m .stop) m)
+memberFound j t (m ∷ n ∷ ms) = refused (searchNumber (searched (m ∷ n ∷ ms))) j
+
+-- its bytes
 unfoldable pub memberBytes : ℕ → Tree → List ℕ → List Member → Outcome (List ℕ)
-memberBytes j t s [] = refused 42 j
-memberBytes j t s (m ∷ []) = require (sameTree t (m .type)) 44 j (read (m .stop) (slice (m .start) (m .stop) s))
-memberBytes j t s (m ∷ n ∷ ms) = refused 43 j
+memberBytes j t s ms = andThen (memberFound j t ms) (λ at m. read at (slice (m .start) (m .stop) s))
 
 -- "the reader's members' bytes joined, in the reader's order", from member j on; the first member at fault is the refusal
 unfoldable pub joinedBytes : ℕ → Forest → List ℕ → List Member → Outcome (List ℕ)
@@ -121,3 +127,7 @@ resolved w r s out =
     (λ f.
     judge (unwritten out) 1 (writerMembers t s)
     (λ ms. judge (unwritten out) 2 (joinedBytes 0 f s ms) (λ bytes. writtenTo out bytes))))))
+
+-- "The bytes given are those written, in order; a refusal gives none."
+unfoldable pub given : Written → List ℕ
+given w = cond (eqb (w .answer .number) 0) (take (w .answer .place) (w .out)) []

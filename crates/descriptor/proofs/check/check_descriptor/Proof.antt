@@ -44,10 +44,10 @@ answered-requires-2 c κs = let s = now (c .before .before .before .before .befo
     omega (arith, g .counts, few-rows s (v .result .next) (g .value) (g .eq) zeroRows)
 
 returns-2 : tie.Need-returns-2
-returns-2 c = let s = now (c .before .before .before .before .before .before .before .args .d) in
-    let v = c .before .before .before .before .before .validate in
-    let g = got rowCount (λ _. 0) (checked s) (v .result) (v .ensures) (not-false _ (c .before .before .before .if1 .left)) in
-    check-accepted s (v .result .next) (g .value) (g .eq) zeroRows (v .result .count) (g .counts) (c .before .answered2 .result) (c .before .answered2 .ensures) refl (c .before .before .tabulate .result) (c .before .before .tabulate .ensures)
+returns-2 c = let s = now (c .before .before .before .before .before .before .args .d) in
+    let v = c .before .before .before .before .validate in
+    let g = got rowCount (λ _. 0) (checked s) (v .result) (v .ensures) (not-false _ (c .before .before .if1 .left)) in
+    check-accepted s (v .result .next) (g .value) (g .eq) zeroRows (v .result .count) (g .counts) (c .answered2 .result) (c .answered2 .ensures) refl (c .before .tabulate .result) (c .before .tabulate .ensures)
 
 pub check-descriptor-spec : {M : Type 1} → statement M
 check-descriptor-spec =

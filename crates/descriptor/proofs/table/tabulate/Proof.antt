@@ -1,109 +1,359 @@
--- `tabulate` fills the top descriptor's row, and its children's by `tabulate_row`. Assumes nothing.
-use mathlib.Core.Path.{_≡_, sym, ap, subst, _∙_}
+-- `tabulate` fills the rows descriptor by descriptor, with those whose children are being filled in `open`. Assumes nothing.
+use mathlib.Core.Path.{refl, ap}
 use native.Mathlib.Omega.{arith}
 use denote.Ref.{now}
 use borrow.Author.Needs.{needs}
-use mathlib.Core.Logic.{⊎-elim}
-use mathlib.Core.List.{List}
-use Prim.Native.Nat.{_+_, _-_}
-use Rattle.descriptor.specs.Limits.{depthLimit}
-use Rattle.descriptor.specs.Codes.{kindOf}
-use Rattle.descriptor.specs.Check.{fieldsAt}
-use Rattle.descriptor.specs.Steps.{fieldsStep}
-use Rattle.descriptor.specs.Filling.{TablePre, emptyTable, filled, rowRead}
-use Rattle.descriptor.specs.declared.answer.Row.{Row}
-use Rattle.descriptor.specs.declared.table.Table.{Table}
-use Rattle.descriptor.proofs.Filling.{first, filled-more, filled-none, turned, turn-children, turn-row, turn-done}
-use borrow.Author.Needs.{needs}
+use Prim.Native.Nat.{suc, _+_, _-_}
+use Rattle.descriptor.specs.Limits.{depthLimit, rowLimit}
+use Rattle.descriptor.specs.Filling.{Table, emptyTable, filled}
+use Rattle.descriptor.proofs.Filling.{first, low, room}
+use Rattle.descriptor.proofs.Resuming.{Resuming, leftAt, resume-begin, resume-as, resume-done, close-asks, close-row, resume-row, leaf-row, resume-leaf, resume-open}
 use Rattle.descriptor.proofs.table.tabulate.Statement.{statement}
 use Rattle.descriptor.proofs.table.tabulate.Tie as tie
+use Rattle.descriptor.proofs.table.tabulate.Reads as reads
+use Rattle.descriptor.proofs.table.tabulate.Lts as lts
+use Rattle.descriptor.proofs.fields.fields.Reads as fields-reads
+use Rattle.descriptor.proofs.header.code_at.Reads as code-at-reads
+use Rattle.descriptor.proofs.header.size_at.Reads as size-at-reads
+use Rattle.descriptor.proofs.table.none_open.Reads as none-open-reads
+use Rattle.descriptor.proofs.table.row_at.Reads as row-at-reads
+use Rattle.descriptor.proofs.table.zero_rows.Reads as zero-rows-reads
 
-size-at-requires : tie.Need-size-at-requires
-size-at-requires c κs = let s = now (c .before .args .d) in
-    let o = first s depthLimit 0 emptyTable (c .before .pre) .opened in
-    omega (arith, o .size, o .least, o .inside)
+abbrev Inv-loop : tie.InvT-loop
+Inv-loop d rows₀ open₀ n₀ at₀ level₀ k₀ rows «open» n at level k =
+    Resuming d (filled d depthLimit 1 emptyTable) (record { rows = rows; n = n; at = at }) «open» level k
 
-code-at-requires : tie.Need-code-at-requires
-code-at-requires c κs = let s = now (c .before .before .args .d) in
-    let o = first s depthLimit 0 emptyTable (c .before .before .pre) .opened in
-    omega (arith, o .size, o .least, o .inside)
+abbrev μ-loop : tie.MeasureT-loop
+μ-loop d rows₀ open₀ n₀ at₀ level₀ k₀ rows «open» n at level k = (rowLimit - n) + (rowLimit - n) + level
 
-add-fields : tie.Need-add-fields
-add-fields c = let s = now (c .before .before .before .args .d) in
-    let o = first s depthLimit 0 emptyTable (c .before .before .before .pre) .opened in
-    omega (arith, o .size, o .inside, c .before .before .before .pre .small, c .before .size-at .ensures .eq)
-
-fields-requires : tie.Need-fields-requires
-fields-requires c κs = let s = now (c .before .before .before .args .d) in
-    let o = first s depthLimit 0 emptyTable (c .before .before .before .pre) .opened in
-    record { from = omega arith; inside = omega (arith, o .size, o .inside, c .before .size-at .ensures .eq); small = c .before .before .before .pre .small }
-
-zero-rows-requires : tie.Need-zero-rows-requires
+-- src/table.rt:89:20
+zero-rows-requires : tie.Need-zero-rows-requires Inv-loop μ-loop
 zero-rows-requires c κs = search needs
 
-sub-tabulate-row : tie.Need-sub-tabulate-row
-sub-tabulate-row c = search needs
+-- src/table.rt:90:21
+none-open-requires : tie.Need-none-open-requires Inv-loop μ-loop
+none-open-requires c κs = search needs
 
-tabulate-row-requires : tie.Need-tabulate-row-requires
-tabulate-row-requires c κs = let s = now (c .before .before .before .before .before .before .before .args .d) in
-    let start : Table = record { rows = c .before .before .zero-rows .result; n = 0; at = 0 } in
-    let pre : TablePre s depthLimit 1 start = subst (λ (x : List Row). TablePre s depthLimit 1 (record { rows = x; n = 0; at = 0 })) (sym (c .before .before .zero-rows .ensures)) (c .before .before .before .before .before .before .before .pre) in
-    let w = first s depthLimit 0 start pre in
-    let size = c .before .before .before .before .before .size-at in
-    let b = c .before .before .before .fields in
-    let eb = b .ensures ∙ ap (λ x. fieldsStep (fieldsAt (kindOf x) s 0 (0 + size .result))) (c .before .before .before .before .code-at .ensures) in
-    turn-children s depthLimit 0 start pre w (size .result) (size .ensures .eq) (b .result) eb
+-- src/table.rt:95:5
+loop-holds : tie.Need-loop-holds Inv-loop μ-loop
+loop-holds c = resume-begin (now (c .before .before .before .args .d)) (c .before .zero-rows .result) (c .before .zero-rows .ensures) (c .none-open .result) (c .before .before .before .pre)
 
-row-at-requires : tie.Need-row-at-requires
+-- src/table.rt:98:17
+returns : tie.Need-returns Inv-loop μ-loop
+returns c = let s = now (c .before .before .before .before .before .before .args .d) in
+    let l = c .before .before .loop in
+    let goal = filled s depthLimit 1 emptyTable in
+    let t : Table = record { rows = l .rows; n = l .n; at = l .at } in
+    ap (λ (x : Table). x .rows) (resume-done s goal t (l .«open») (resume-as s goal t (l .«open») (l .level) (l .k) 0 0 (l .inv) (c .if2 .taken) (c .before .if1 .taken)))
+
+-- src/table.rt:100:13
+sub-level : tie.Need-sub-level Inv-loop μ-loop
+sub-level c = omega (arith, c .if2 .left)
+
+-- src/table.rt:101:21
+mul-o : tie.Need-mul-o Inv-loop μ-loop
+mul-o c = omega (arith, c .before .before .loop .inv .deep)
+
+-- src/table.rt:101:21
+array-copy-out-o : tie.Need-array-copy-out-o Inv-loop μ-loop
+array-copy-out-o c = omega (arith, c .if2 .left, c .before .before .loop .inv .deep)
+
+-- src/table.rt:103:33
+add-row-at : tie.Need-add-row-at Inv-loop μ-loop
+add-row-at c = omega (arith, c .before .before .before .loop .inv .deep)
+
+-- src/table.rt:103:23
+row-at-requires : tie.Need-row-at-requires Inv-loop μ-loop
 row-at-requires c κs = let s = now (c .before .before .before .before .before .before .before .args .d) in
-    let start : Table = record { rows = c .before .before .zero-rows .result; n = 0; at = 0 } in
-    let pre : TablePre s depthLimit 1 start = subst (λ (x : List Row). TablePre s depthLimit 1 (record { rows = x; n = 0; at = 0 })) (sym (c .before .before .zero-rows .ensures)) (c .before .before .before .before .before .before .before .pre) in
-    let w = first s depthLimit 0 start pre in
-    let size = c .before .before .before .before .before .size-at in
-    let b = c .before .before .before .fields in
-    let eb = b .ensures ∙ ap (λ x. fieldsStep (fieldsAt (kindOf x) s 0 (0 + size .result))) (c .before .before .before .before .code-at .ensures) in
-    let v = c .if1 .t in
-    let ev : v ≡ filled s (depthLimit - 1) (b .result .children) (turned s depthLimit 0 start pre w (size .result) (size .ensures .eq) (b .result) eb) =
-    ⊎-elim (λ u. u .2 ∙ u .1 .ensures)
-    (λ u. u .1 ∙ sym (ap (λ j. filled s (depthLimit - 1) j (turned s depthLimit 0 start pre w (size .result) (size .ensures .eq) (b .result) eb)) (omega (arith, u .0 .left)) ∙ filled-none s (depthLimit - 1) (turned s depthLimit 0 start pre w (size .result) (size .ensures .eq) (b .result) eb))) (c .if1 .came) in
-    turn-row s depthLimit 0 start pre w (size .result) (size .ensures .eq) (b .result) eb v ev
+    let l = c .before .before .before .loop in
+    let goal = filled s depthLimit 1 emptyTable in
+    let t : Table = record { rows = l .rows; n = l .n; at = l .at } in
+    let j = l .level - 1 in
+    let r : Resuming s goal t (l .«open») (suc j) 0 = resume-as s goal t (l .«open») (l .level) (l .k) (suc j) 0 (l .inv) (omega (arith, c .before .if2 .left)) (c .before .before .if1 .taken) in
+    close-row s goal t (l .«open») j r
 
-element-set-from-t : tie.Need-element-set-from-t
-element-set-from-t c = search needs
+-- src/table.rt:103:13
+mul-rows : tie.Need-mul-rows Inv-loop μ-loop
+mul-rows c = let s = now (c .before .before .before .before .before .before .before .before .args .d) in
+    let l = c .before .before .before .before .loop in
+    let goal = filled s depthLimit 1 emptyTable in
+    let t : Table = record { rows = l .rows; n = l .n; at = l .at } in
+    let j = l .level - 1 in
+    let r : Resuming s goal t (l .«open») (suc j) 0 = resume-as s goal t (l .«open») (l .level) (l .k) (suc j) 0 (l .inv) (omega (arith, c .before .before .if2 .left)) (c .before .before .before .if1 .taken) in
+    omega (arith, close-asks s goal t (l .«open») j r .place)
 
-add-t : tie.Need-add-t
-add-t c = let s = now (c .before .before .before .before .before .before .before .before .args .d) in
-    let o = first s depthLimit 0 emptyTable (c .before .before .before .before .before .before .before .before .pre) .opened in
-    omega (arith, o .size, o .inside, c .before .before .before .before .before .before .before .before .pre .small, c .before .before .before .before .before .before .size-at .ensures .eq)
+-- src/table.rt:103:13
+array-set-from-rows : tie.Need-array-set-from-rows Inv-loop μ-loop
+array-set-from-rows c = let s = now (c .before .before .before .before .before .before .before .before .args .d) in
+    let l = c .before .before .before .before .loop in
+    let goal = filled s depthLimit 1 emptyTable in
+    let t : Table = record { rows = l .rows; n = l .n; at = l .at } in
+    let j = l .level - 1 in
+    let r : Resuming s goal t (l .«open») (suc j) 0 = resume-as s goal t (l .«open») (l .level) (l .k) (suc j) 0 (l .inv) (omega (arith, c .before .before .if2 .left)) (c .before .before .before .if1 .taken) in
+    close-asks s goal t (l .«open») j r .place
 
-returns : tie.Need-returns
-returns c = let s = now (c .before .before .before .before .before .before .before .before .args .d) in
-    let start : Table = record { rows = c .before .before .before .zero-rows .result; n = 0; at = 0 } in
-    let pre : TablePre s depthLimit 1 start = subst (λ (x : List Row). TablePre s depthLimit 1 (record { rows = x; n = 0; at = 0 })) (sym (c .before .before .before .zero-rows .ensures)) (c .before .before .before .before .before .before .before .before .pre) in
-    let w = first s depthLimit 0 start pre in
-    let size = c .before .before .before .before .before .before .size-at in
-    let b = c .before .before .before .before .fields in
-    let eb = b .ensures ∙ ap (λ x. fieldsStep (fieldsAt (kindOf x) s 0 (0 + size .result))) (c .before .before .before .before .before .code-at .ensures) in
-    let v = c .before .if1 .t in
-    let ev : v ≡ filled s (depthLimit - 1) (b .result .children) (turned s depthLimit 0 start pre w (size .result) (size .ensures .eq) (b .result) eb) =
-    ⊎-elim (λ u. u .2 ∙ u .1 .ensures)
-    (λ u. u .1 ∙ sym (ap (λ j. filled s (depthLimit - 1) j (turned s depthLimit 0 start pre w (size .result) (size .ensures .eq) (b .result) eb)) (omega (arith, u .0 .left)) ∙ filled-none s (depthLimit - 1) (turned s depthLimit 0 start pre w (size .result) (size .ensures .eq) (b .result) eb))) (c .before .if1 .came) in
-    turn-done s depthLimit 0 start pre w (size .result) (size .ensures .eq) (b .result) eb v ev (c .row-at .result) (c .row-at .ensures ∙ ap (λ x. rowRead s 1 0 x (size .result) (b .result .count) (v .at)) (c .before .before .before .before .before .code-at .ensures))
-    ∙ sym (filled-more s depthLimit 0 start pre w ∙ filled-none s depthLimit _)
-    ∙ ap (λ (x : List Row). filled s depthLimit 1 (record { rows = x; n = 0; at = 0 })) (c .before .before .before .zero-rows .ensures)
+-- src/table.rt:104:18
+add-at : tie.Need-add-at Inv-loop μ-loop
+add-at c = let s = now (c .before .before .before .before .before .before .before .before .before .args .d) in
+    let l = c .before .before .before .before .before .loop in
+    let goal = filled s depthLimit 1 emptyTable in
+    let t : Table = record { rows = l .rows; n = l .n; at = l .at } in
+    let j = l .level - 1 in
+    let r : Resuming s goal t (l .«open») (suc j) 0 = resume-as s goal t (l .«open») (l .level) (l .k) (suc j) 0 (l .inv) (omega (arith, c .before .before .before .if2 .left)) (c .before .before .before .before .if1 .taken) in
+    let row = close-row s goal t (l .«open») j r in
+    omega (arith, row .inside, row .small)
+
+-- src/table.rt:95:5
+loop-less : tie.Need-loop-less Inv-loop μ-loop
+loop-less c = omega (arith, c .before .before .before .if2 .left)
+
+-- src/table.rt:95:5
+loop-again : tie.Need-loop-again Inv-loop μ-loop
+loop-again c = let s = now (c .before .before .before .before .before .before .before .before .before .args .d) in
+    let l = c .before .before .before .before .before .loop in
+    let goal = filled s depthLimit 1 emptyTable in
+    let t : Table = record { rows = l .rows; n = l .n; at = l .at } in
+    let j = l .level - 1 in
+    let r : Resuming s goal t (l .«open») (suc j) 0 = resume-as s goal t (l .«open») (l .level) (l .k) (suc j) 0 (l .inv) (omega (arith, c .before .before .before .if2 .left)) (c .before .before .before .before .if1 .taken) in
+    resume-row s goal t (l .«open») j r (c .before .row-at .result) (c .before .row-at .ensures)
+
+-- src/table.rt:107:17
+size-at-requires : tie.Need-size-at-requires Inv-loop μ-loop
+size-at-requires c κs = let s = now (c .before .before .before .before .before .args .d) in
+    let l = c .before .loop in
+    let goal = filled s depthLimit 1 emptyTable in
+    let t : Table = record { rows = l .rows; n = l .n; at = l .at } in
+    let k = l .k - 1 in
+    let r : Resuming s goal t (l .«open») (l .level) (suc k) = resume-as s goal t (l .«open») (l .level) (l .k) (l .level) (suc k) (l .inv) refl (omega (arith, c .if1 .left)) in
+    let w = first s (leftAt (l .level)) k t (r .pre) in
+    let o = w .opened in
+    omega (arith, o .size, o .least, o .inside)
+
+-- src/table.rt:108:17
+code-at-requires : tie.Need-code-at-requires Inv-loop μ-loop
+code-at-requires c κs = let s = now (c .before .before .before .before .before .before .args .d) in
+    let l = c .before .before .loop in
+    let goal = filled s depthLimit 1 emptyTable in
+    let t : Table = record { rows = l .rows; n = l .n; at = l .at } in
+    let k = l .k - 1 in
+    let r : Resuming s goal t (l .«open») (l .level) (suc k) = resume-as s goal t (l .«open») (l .level) (l .k) (l .level) (suc k) (l .inv) refl (omega (arith, c .before .if1 .left)) in
+    let w = first s (leftAt (l .level)) k t (r .pre) in
+    let o = w .opened in
+    omega (arith, o .size, o .least, o .inside)
+
+-- src/table.rt:109:41
+add-fields : tie.Need-add-fields Inv-loop μ-loop
+add-fields c = let s = now (c .before .before .before .before .before .before .before .args .d) in
+    let l = c .before .before .before .loop in
+    let goal = filled s depthLimit 1 emptyTable in
+    let t : Table = record { rows = l .rows; n = l .n; at = l .at } in
+    let k = l .k - 1 in
+    let r : Resuming s goal t (l .«open») (l .level) (suc k) = resume-as s goal t (l .«open») (l .level) (l .k) (l .level) (suc k) (l .inv) refl (omega (arith, c .before .before .if1 .left)) in
+    let w = first s (leftAt (l .level)) k t (r .pre) in
+    let o = w .opened in
+    omega (arith, o .size, o .inside, r .pre .small, c .before .size-at .ensures .eq)
+
+-- src/table.rt:109:17
+fields-requires : tie.Need-fields-requires Inv-loop μ-loop
+fields-requires c κs = let s = now (c .before .before .before .before .before .before .before .args .d) in
+    let l = c .before .before .before .loop in
+    let goal = filled s depthLimit 1 emptyTable in
+    let t : Table = record { rows = l .rows; n = l .n; at = l .at } in
+    let k = l .k - 1 in
+    let r : Resuming s goal t (l .«open») (l .level) (suc k) = resume-as s goal t (l .«open») (l .level) (l .k) (l .level) (suc k) (l .inv) refl (omega (arith, c .before .before .if1 .left)) in
+    let w = first s (leftAt (l .level)) k t (r .pre) in
+    let o = w .opened in
+    record { from = omega arith; inside = omega (arith, o .size, o .inside, c .before .size-at .ensures .eq); small = r .pre .small }
+
+-- src/table.rt:116:27
+sub-t27 : tie.Need-sub-t27 Inv-loop μ-loop
+sub-t27 c = omega (arith, c .before .before .before .before .before .if1 .left)
+
+-- src/table.rt:111:17
+mul-open : tie.Need-mul-open Inv-loop μ-loop
+mul-open c = omega (arith, c .before .before .before .before .before .before .loop .inv .deep)
+
+-- src/table.rt:111:17
+array-set-from-open : tie.Need-array-set-from-open Inv-loop μ-loop
+array-set-from-open c = let s = now (c .before .before .before .before .before .before .before .before .before .before .args .d) in
+    let l = c .before .before .before .before .before .before .loop in
+    let goal = filled s depthLimit 1 emptyTable in
+    let t : Table = record { rows = l .rows; n = l .n; at = l .at } in
+    let k = l .k - 1 in
+    let r : Resuming s goal t (l .«open») (l .level) (suc k) = resume-as s goal t (l .«open») (l .level) (l .k) (l .level) (suc k) (l .inv) refl (omega (arith, c .before .before .before .before .before .if1 .left)) in
+    let w = first s (leftAt (l .level)) k t (r .pre) in
+    let o = w .opened in
+    omega (arith, low s (leftAt (l .level)) k t (r .pre) w)
+
+-- src/table.rt:119:17
+add-level : tie.Need-add-level Inv-loop μ-loop
+add-level c = omega (arith, c .before .before .before .before .before .before .loop .inv .deep)
+
+-- src/table.rt:120:17
+add-n : tie.Need-add-n Inv-loop μ-loop
+add-n c = let s = now (c .before .before .before .before .before .before .before .before .before .before .args .d) in
+    let l = c .before .before .before .before .before .before .loop in
+    let goal = filled s depthLimit 1 emptyTable in
+    let t : Table = record { rows = l .rows; n = l .n; at = l .at } in
+    let k = l .k - 1 in
+    let r : Resuming s goal t (l .«open») (l .level) (suc k) = resume-as s goal t (l .«open») (l .level) (l .k) (l .level) (suc k) (l .inv) refl (omega (arith, c .before .before .before .before .before .if1 .left)) in
+    let w = first s (leftAt (l .level)) k t (r .pre) in
+    let o = w .opened in
+    omega (arith, room s (leftAt (l .level)) k t (r .pre) w)
+
+-- src/table.rt:95:5
+loop-less-2 : tie.Need-loop-less-2 Inv-loop μ-loop
+loop-less-2 c = let s = now (c .before .before .before .before .before .before .before .before .before .before .args .d) in
+    let l = c .before .before .before .before .before .before .loop in
+    let goal = filled s depthLimit 1 emptyTable in
+    let t : Table = record { rows = l .rows; n = l .n; at = l .at } in
+    let k = l .k - 1 in
+    let r : Resuming s goal t (l .«open») (l .level) (suc k) = resume-as s goal t (l .«open») (l .level) (l .k) (l .level) (suc k) (l .inv) refl (omega (arith, c .before .before .before .before .before .if1 .left)) in
+    let w = first s (leftAt (l .level)) k t (r .pre) in
+    let o = w .opened in
+    omega (arith, room s (leftAt (l .level)) k t (r .pre) w)
+
+-- src/table.rt:95:5
+loop-again-2 : tie.Need-loop-again-2 Inv-loop μ-loop
+loop-again-2 c = let s = now (c .before .before .before .before .before .before .before .before .before .before .args .d) in
+    let l = c .before .before .before .before .before .before .loop in
+    let goal = filled s depthLimit 1 emptyTable in
+    let t : Table = record { rows = l .rows; n = l .n; at = l .at } in
+    let k = l .k - 1 in
+    let r : Resuming s goal t (l .«open») (l .level) (suc k) = resume-as s goal t (l .«open») (l .level) (l .k) (l .level) (suc k) (l .inv) refl (omega (arith, c .before .before .before .before .before .if1 .left)) in
+    let w = first s (leftAt (l .level)) k t (r .pre) in
+    let o = w .opened in
+    resume-as s goal _ _ _ _ _ _ (resume-open s goal t (l .«open») (l .level) k r w (c .before .before .before .before .size-at .result) (c .before .before .before .before .size-at .ensures .eq) (c .before .before .before .code-at .result) (c .before .before .before .code-at .ensures) (c .before .before .fields .result) (c .before .before .fields .ensures)) (omega arith) refl
+
+-- src/table.rt:124:37
+add-row-at-2 : tie.Need-add-row-at-2 Inv-loop μ-loop
+add-row-at-2 c = omega (arith, c .before .before .before .before .before .before .loop .inv .deep)
+
+-- src/table.rt:124:27
+row-at-requires-2 : tie.Need-row-at-requires-2 Inv-loop μ-loop
+row-at-requires-2 c κs = let s = now (c .before .before .before .before .before .before .before .before .before .before .args .d) in
+    let l = c .before .before .before .before .before .before .loop in
+    let goal = filled s depthLimit 1 emptyTable in
+    let t : Table = record { rows = l .rows; n = l .n; at = l .at } in
+    let k = l .k - 1 in
+    let r : Resuming s goal t (l .«open») (l .level) (suc k) = resume-as s goal t (l .«open») (l .level) (l .k) (l .level) (suc k) (l .inv) refl (omega (arith, c .before .before .before .before .before .if1 .left)) in
+    let w = first s (leftAt (l .level)) k t (r .pre) in
+    let o = w .opened in
+    leaf-row s goal t (l .«open») (l .level) k r w (c .before .before .before .before .size-at .result) (c .before .before .before .before .size-at .ensures .eq) (c .before .before .before .code-at .result) (c .before .before .before .code-at .ensures) (c .before .before .fields .result) (c .before .before .fields .ensures) (omega (arith, c .if3 .left))
+
+-- src/table.rt:124:17
+mul-rows-2 : tie.Need-mul-rows-2 Inv-loop μ-loop
+mul-rows-2 c = let s = now (c .before .before .before .before .before .before .before .before .before .before .before .args .d) in
+    let l = c .before .before .before .before .before .before .before .loop in
+    let goal = filled s depthLimit 1 emptyTable in
+    let t : Table = record { rows = l .rows; n = l .n; at = l .at } in
+    let k = l .k - 1 in
+    let r : Resuming s goal t (l .«open») (l .level) (suc k) = resume-as s goal t (l .«open») (l .level) (l .k) (l .level) (suc k) (l .inv) refl (omega (arith, c .before .before .before .before .before .before .if1 .left)) in
+    let w = first s (leftAt (l .level)) k t (r .pre) in
+    let o = w .opened in
+    omega (arith, room s (leftAt (l .level)) k t (r .pre) w)
+
+-- src/table.rt:124:17
+array-set-from-rows-2 : tie.Need-array-set-from-rows-2 Inv-loop μ-loop
+array-set-from-rows-2 c = let s = now (c .before .before .before .before .before .before .before .before .before .before .before .args .d) in
+    let l = c .before .before .before .before .before .before .before .loop in
+    let goal = filled s depthLimit 1 emptyTable in
+    let t : Table = record { rows = l .rows; n = l .n; at = l .at } in
+    let k = l .k - 1 in
+    let r : Resuming s goal t (l .«open») (l .level) (suc k) = resume-as s goal t (l .«open») (l .level) (l .k) (l .level) (suc k) (l .inv) refl (omega (arith, c .before .before .before .before .before .before .if1 .left)) in
+    let w = first s (leftAt (l .level)) k t (r .pre) in
+    let o = w .opened in
+    omega (arith, room s (leftAt (l .level)) k t (r .pre) w)
+
+-- src/table.rt:125:17
+add-n-2 : tie.Need-add-n-2 Inv-loop μ-loop
+add-n-2 c = let s = now (c .before .before .before .before .before .before .before .before .before .before .before .args .d) in
+    let l = c .before .before .before .before .before .before .before .loop in
+    let goal = filled s depthLimit 1 emptyTable in
+    let t : Table = record { rows = l .rows; n = l .n; at = l .at } in
+    let k = l .k - 1 in
+    let r : Resuming s goal t (l .«open») (l .level) (suc k) = resume-as s goal t (l .«open») (l .level) (l .k) (l .level) (suc k) (l .inv) refl (omega (arith, c .before .before .before .before .before .before .if1 .left)) in
+    let w = first s (leftAt (l .level)) k t (r .pre) in
+    let o = w .opened in
+    omega (arith, room s (leftAt (l .level)) k t (r .pre) w)
+
+-- src/table.rt:126:17
+add-at-2 : tie.Need-add-at-2 Inv-loop μ-loop
+add-at-2 c = let s = now (c .before .before .before .before .before .before .before .before .before .before .before .args .d) in
+    let l = c .before .before .before .before .before .before .before .loop in
+    let goal = filled s depthLimit 1 emptyTable in
+    let t : Table = record { rows = l .rows; n = l .n; at = l .at } in
+    let k = l .k - 1 in
+    let r : Resuming s goal t (l .«open») (l .level) (suc k) = resume-as s goal t (l .«open») (l .level) (l .k) (l .level) (suc k) (l .inv) refl (omega (arith, c .before .before .before .before .before .before .if1 .left)) in
+    let w = first s (leftAt (l .level)) k t (r .pre) in
+    let o = w .opened in
+    omega (arith, o .size, o .inside, r .pre .small, c .before .before .before .before .before .size-at .ensures .eq)
+
+-- src/table.rt:127:17
+sub-k : tie.Need-sub-k Inv-loop μ-loop
+sub-k c = omega (arith, c .before .before .before .before .before .before .if1 .left)
+
+-- src/table.rt:95:5
+loop-less-3 : tie.Need-loop-less-3 Inv-loop μ-loop
+loop-less-3 c = let s = now (c .before .before .before .before .before .before .before .before .before .before .before .args .d) in
+    let l = c .before .before .before .before .before .before .before .loop in
+    let goal = filled s depthLimit 1 emptyTable in
+    let t : Table = record { rows = l .rows; n = l .n; at = l .at } in
+    let k = l .k - 1 in
+    let r : Resuming s goal t (l .«open») (l .level) (suc k) = resume-as s goal t (l .«open») (l .level) (l .k) (l .level) (suc k) (l .inv) refl (omega (arith, c .before .before .before .before .before .before .if1 .left)) in
+    let w = first s (leftAt (l .level)) k t (r .pre) in
+    let o = w .opened in
+    omega (arith, room s (leftAt (l .level)) k t (r .pre) w)
+
+-- src/table.rt:95:5
+loop-again-3 : tie.Need-loop-again-3 Inv-loop μ-loop
+loop-again-3 c = let s = now (c .before .before .before .before .before .before .before .before .before .before .before .args .d) in
+    let l = c .before .before .before .before .before .before .before .loop in
+    let goal = filled s depthLimit 1 emptyTable in
+    let t : Table = record { rows = l .rows; n = l .n; at = l .at } in
+    let k = l .k - 1 in
+    let r : Resuming s goal t (l .«open») (l .level) (suc k) = resume-as s goal t (l .«open») (l .level) (l .k) (l .level) (suc k) (l .inv) refl (omega (arith, c .before .before .before .before .before .before .if1 .left)) in
+    let w = first s (leftAt (l .level)) k t (r .pre) in
+    let o = w .opened in
+    resume-leaf s goal t (l .«open») (l .level) k r w (c .before .before .before .before .before .size-at .result) (c .before .before .before .before .before .size-at .ensures .eq) (c .before .before .before .before .code-at .result) (c .before .before .before .before .code-at .ensures) (c .before .before .before .fields .result) (c .before .before .before .fields .ensures) (omega (arith, c .before .if3 .left)) (c .row-at2 .result) (c .row-at2 .ensures)
 
 pub tabulate-spec : {M : Type 1} → statement M
 tabulate-spec =
     tie.close
     (tie.spec
+    Inv-loop
+    μ-loop
+    zero-rows-requires
+    none-open-requires
+    loop-holds
+    returns
+    sub-level
+    mul-o
+    array-copy-out-o
+    add-row-at
+    row-at-requires
+    mul-rows
+    array-set-from-rows
+    add-at
+    loop-less
+    loop-again
     size-at-requires
     code-at-requires
     add-fields
     fields-requires
-    zero-rows-requires
-    sub-tabulate-row
-    tabulate-row-requires
-    row-at-requires
-    element-set-from-t
-    add-t
-    returns)
+    sub-t27
+    mul-open
+    array-set-from-open
+    add-level
+    add-n
+    loop-less-2
+    loop-again-2
+    add-row-at-2
+    row-at-requires-2
+    mul-rows-2
+    array-set-from-rows-2
+    add-n-2
+    add-at-2
+    sub-k
+    loop-less-3
+    loop-again-3)

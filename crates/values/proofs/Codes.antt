@@ -1,0 +1,80 @@
+-- What holds of the codes: a test that is computed over every code of one byte, and the rules that it gives at each.
+-- Rests on the table of widths, which ends below.
+use mathlib.Core.Path.{_≡_, refl, ap, _∙_}
+use mathlib.Core.Bool.{Bool, true, false, not, _&&_, _||_}
+use Prim.Native.Nat.{ℕ, zero, suc, _%_, _≤_, _<_}
+use native.Mathlib.Decide.{decLt}
+use native.Mathlib.Omega.{arith}
+use borrow.Author.Tests.{eqb-true, ltb-true, not-true, le-leb, eq-eqb}
+use lib.Dec.{ltb, eqb}
+use Rattle.descriptor.specs.Codes.{Kind, kindOf, between}
+use Rattle.descriptor.specs.Steps.{kindNumber}
+use Rattle.descriptor.proofs.Sizes.{and-true, both-true}
+use Rattle.flattened.specs.Width.{widthOf}
+use Rattle.flattened.proofs.Widths.{none-past}
+use Rattle.byteorder.specs.Reversal.{isComplex}
+use Rattle.values.specs.Value.{numberCount}
+
+-- whether a test passes at every number below n
+passes : (ℕ → Bool) → ℕ → Bool
+passes test zero = true
+passes test (suc n) = passes test n && test n
+
+-- so it passes at each
+each : (test : ℕ → Bool) (n : ℕ) → passes test n ≡ true → (k : ℕ) → k < n → test k ≡ true
+unfolding passes
+each test zero e k h = absurd (omega arith)
+each test (suc n) e k h =
+    let parts = and-true (passes test n) (test n) e in
+    go (decLt k n) (each test n (parts .0) k) (parts .1)
+  where
+    go : Dec (k < n) → (k < n → test k ≡ true) → test n ≡ true → test k ≡ true
+    go (yes l) before last = before l
+    go (no l) before last = let e : k ≡ n = omega arith in ap test e ∙ last
+
+-- a complex number's width is even; a code of numbers has a width; and an enumeration has one number, which is no flag
+test : ℕ → Bool
+test c =
+    (not (isComplex c) || eqb (widthOf c % 2) 0)
+    && ((not (between 1 3 (kindNumber (kindOf c))) || ltb 0 (widthOf c))
+    && (not (eqb (kindNumber (kindOf c)) 2) || (eqb (numberCount c) 1 && not (eqb c 33))))
+
+-- the test, computed once
+all-pass : passes test 256 ≡ true
+unfolding passes test widthOf kindOf kindNumber numberCount
+all-pass = refl
+
+-- a test that holds where another does
+follows : (a b : Bool) → (not a || b) ≡ true → a ≡ true → b ≡ true
+follows true b e h = e
+follows false b e h = cc
+
+module _ (c : ℕ) (h : c < 256) where
+  parts : ((not (isComplex c) || eqb (widthOf c % 2) 0) ≡ true)
+      × ((not (between 1 3 (kindNumber (kindOf c))) || ltb 0 (widthOf c)) ≡ true)
+      × ((not (eqb (kindNumber (kindOf c)) 2) || (eqb (numberCount c) 1 && not (eqb c 33))) ≡ true)
+  unfolding test
+  parts =
+      let r = and-true (not (isComplex c) || eqb (widthOf c % 2) 0) _ (each test 256 all-pass c h) in
+      let s = and-true (not (between 1 3 (kindNumber (kindOf c))) || ltb 0 (widthOf c)) _ (r .1) in
+      (r .0, s .0, s .1)
+
+  -- a code of numbers has a width
+  pub some-width : 1 ≤ kindNumber (kindOf c) → kindNumber (kindOf c) ≤ 3 → 0 < widthOf c
+  some-width l k = ltb-true 0 (widthOf c) (follows _ _ (parts .1) (both-true (le-leb 1 _ l) (le-leb _ 3 k)))
+
+  -- an enumeration has one number, which is no flag
+  pub one-number : kindOf c ≡ Kind.enumeration → (1 ≡ numberCount c) × (eqb c 33 ≡ false)
+  unfolding kindNumber
+  one-number k =
+      let r = and-true (eqb (numberCount c) 1) (not (eqb c 33)) (follows _ _ (parts .2) (eq-eqb _ 2 (ap kindNumber k))) in
+      let one : numberCount c ≡ 1 = eqb-true _ 1 (r .0) in
+      (omega arith, not-true (eqb c 33) (r .1))
+
+-- a complex number is of two halves
+pub halves : (c : ℕ) → isComplex c ≡ true → widthOf c % 2 ≡ 0
+halves c e = go (decLt c 256)
+  where
+    go : Dec (c < 256) → widthOf c % 2 ≡ 0
+    go (yes h) = eqb-true (widthOf c % 2) 0 (follows _ _ (parts c h .0) e)
+    go (no h) = omega (arith, none-past c (omega arith))

@@ -1,0 +1,15 @@
+pub mod Codes
+pub mod Places
+pub mod Numbers
+pub mod Scalars
+pub mod Lengths
+pub mod Complete
+pub mod Sound
+pub mod Unique
+pub mod AllBytes
+pub mod Accepted
+pub mod Forms
+pub mod Refusals
+pub mod Answers
+pub mod Cases
+pub mod Chained
