@@ -18,7 +18,7 @@ use Rattle.descriptor.specs.Tree.{Tree, node}
 use Rattle.descriptor.specs.Outcome.{Outcome, read, andThen, require, judge}
 use Rattle.descriptor.specs.Check.{checked}
 use Rattle.descriptor.specs.Answers.{refusal, accepted}
-use Rattle.flattened.specs.Width.{widthOf}
+use Rattle.descriptor.specs.Width.{widthOf}
 use Rattle.flattened.specs.Order.{big}
 use Rattle.flattened.specs.Walk.{walked}
 use Rattle.access.specs.Path.{Spot, spotOf}

@@ -1,14 +1,14 @@
 -- "The little-endian form has the same layout with the bytes of each number reversed in place: each integer, enumeration, real number,
 -- half of a complex number, string length and size word. Booleans and characters stay." The way back reverses the same numbers.
-use mathlib.Core.Bool.{Bool, cond, _||_}
+use mathlib.Core.Bool.{cond}
 use mathlib.Core.List.{List, [], _∷_, _++_, reverse}
 use Prim.Native.Nat.{ℕ, zero, suc, _/_}
 use lib.ListN.{take, drop}
-use Rattle.descriptor.specs.Codes.{between}
+use Rattle.descriptor.specs.Codes.{isComplex}
 use Rattle.descriptor.specs.Outcome.{judge}
 use Rattle.descriptor.specs.Check.{checked}
 use Rattle.descriptor.specs.Output.{Written, unwritten, writtenTo}
-use Rattle.flattened.specs.Width.{widthOf}
+use Rattle.descriptor.specs.Width.{widthOf}
 use Rattle.flattened.specs.Order.{Order, big, little}
 use Rattle.flattened.specs.Token.{TokenKind, scalar, string, sizes, Token, tokenBytes}
 use Rattle.flattened.specs.Walk.{walked}
@@ -17,10 +17,6 @@ use Rattle.flattened.specs.Walk.{walked}
 unfoldable pub reverseEach : ℕ → ℕ → List ℕ → List ℕ
 reverseEach w zero x = x
 reverseEach w (suc k) x = reverse (take w x) ++ reverseEach w k (drop w x)
-
--- codes 0C to 0E and 1C to 1E: two numbers, each half as wide
-abbrev pub isComplex : ℕ → Bool
-isComplex c = between 12 14 c || between 28 30 c
 
 unfoldable pub reverseToken : TokenKind → List ℕ → List ℕ
 reverseToken (scalar c) x = cond (isComplex c) (reverseEach (widthOf c / 2) 2 x) (reverseEach (widthOf c) 1 x)

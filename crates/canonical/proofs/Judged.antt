@@ -13,14 +13,14 @@ use Rattle.descriptor.specs.Outcome.{Outcome, refused, read, judge}
 use Rattle.descriptor.specs.Check.{checked}
 use Rattle.descriptor.specs.Answers.{accepted}
 use Rattle.descriptor.specs.Output.{unwritten, writtenTo}
-use Rattle.descriptor.specs.Standing.{standingRow, isRead, forestOf}
-use Rattle.descriptor.specs.Steps.{counted}
+use Rattle.descriptor.specs.inner.Standing.{standingRow, isRead, forestOf}
+use Rattle.descriptor.specs.inner.Steps.{counted}
 use Rattle.descriptor.specs.declared.step.Step.{Step}
 use Rattle.descriptor.proofs.Steps.{got, impossible}
 use Rattle.descriptor.proofs.Standing.{accepted-standing}
 use Rattle.canonical.specs.Equality.{sameTree, notCompared, bothCompared, comparison}
 use Rattle.canonical.specs.Normal.{normalForm}
-use Rattle.canonical.specs.Walk.{Accepted, sameWithin, clearForest}
+use Rattle.canonical.specs.inner.Walk.{Accepted, sameWithin, clearForest}
 use Rattle.canonical.specs.declared.Compared.{Compared}
 use Rattle.canonical.proofs.Lists.{bytes-of, bool-same}
 use Rattle.canonical.proofs.Whole.{walk-accepts, differ-long, same-long, normal-length, normal-cleared}

@@ -11,7 +11,7 @@ use borrow.Author.Tests.{eq-eqb, ne-eqb}
 use Rattle.descriptor.specs.Encoding.{Bytes}
 use Rattle.encoding.proofs.Slices.{slice-more}
 use Rattle.canonical.specs.Equality.{sameList, sameChars}
-use Rattle.canonical.specs.Walk.{sameRun}
+use Rattle.canonical.specs.inner.Walk.{sameRun}
 
 -- tests in a row may be grouped either way
 pub and-assoc : (a b c : Bool) → ((a && b) && c) ≡ (a && (b && c))

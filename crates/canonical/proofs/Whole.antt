@@ -12,15 +12,16 @@ use Rattle.descriptor.specs.Tree.{Tree, nil, cons, treeSize, forestHeight}
 use Rattle.descriptor.specs.Encoding.{encodeWith, forestWith, encode, Bytes}
 use Rattle.descriptor.specs.Outcome.{read}
 use Rattle.descriptor.specs.Check.{membersAt, checked}
-use Rattle.descriptor.specs.Standing.{standing, standingRow, nextOf, forestOf}
+use Rattle.descriptor.specs.inner.Standing.{standing, standingRow, nextOf, forestOf}
 use Rattle.descriptor.proofs.Standing.{standing-ends, standing-low, accepted-standing}
 use Rattle.descriptor.proofs.Steps.{impossible}
 use Rattle.encoding.proofs.Slices.{slice-all}
 use Rattle.encoding.proofs.Lengths.{tree-length}
-use Rattle.encoding.proofs.Sound.{reservedIn, read-sound}
+use Rattle.descriptor.specs.Header.{reservedIn}
+use Rattle.encoding.proofs.Sound.{read-sound}
 use Rattle.encoding.proofs.Accepted.{accepted-spells, spells-accepted}
 use Rattle.canonical.specs.Equality.{sameChars, sameTree}
-use Rattle.canonical.specs.Walk.{RowInside, respelled, sameWithin, clearForest}
+use Rattle.canonical.specs.inner.Walk.{RowInside, respelled, sameWithin, clearForest}
 use Rattle.canonical.proofs.Same.{chars-same, chars-refl, same-tree, same-refl}
 use Rattle.canonical.proofs.Lists.{bool-same}
 use Rattle.canonical.proofs.Turns.{row-inside}
@@ -40,7 +41,7 @@ module _ (s : List ℕ) (q : ℕ) (t : Tree) (e : checked s ≡ read q t) where
   unfolding forestHeight
   top-inside =
       let a = accepted-standing s q t e in
-      row-inside s 1 0 (length s) depthLimit (length s) (cons t nil) (a .1 .1) (omega arith) (omega arith) top-row (omega arith)
+      row-inside s 1 0 (length s) depthLimit (length s) (cons t nil) (omega (arith, a .1 .1)) (omega arith) (omega arith) top-row (omega arith)
       (omega (arith, standing-low s 0 q t (a .0)))
 
   -- and has its tree's size

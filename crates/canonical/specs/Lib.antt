@@ -1,3 +1,3 @@
 pub mod Equality
 pub mod Normal
-pub mod Walk
+pub mod inner

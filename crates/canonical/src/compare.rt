@@ -1,17 +1,16 @@
 // Whether two descriptors are equal: "Only the reserved byte is ignored."
 use super::Compared;
 use descriptor::answer::answered;
-use descriptor::fields::fields;
-use descriptor::header::code_at;
+use descriptor::header::reserved_at;
 use descriptor::header::size_at;
+use descriptor::inside::inside_of;
 use descriptor::limits::DEPTH_LIMIT;
 use descriptor::validate::validate;
 ghost use mathlib.Core.Path.{_≡_};
-ghost use Prim.Native.Nat.{_≤_};
+ghost use Prim.Native.Nat.{_≤_, _<_, _^_};
 ghost use lib.ListN.{length};
-ghost use Rattle.descriptor.specs.Limits.{descriptorLimit};
 ghost use Rattle.canonical.specs.Equality.{notCompared, bothCompared, comparison};
-ghost use Rattle.canonical.specs.Walk.{Both, RowInside, Accepted, sameRun, sameWithin};
+ghost use Rattle.canonical.specs.inner.Walk.{Both, RowInside, Accepted, sameRun, sameWithin};
 
 // Whether a and b hold the same bytes from `from` up to `to`.
 fn same_run(a: &[u8], b: &[u8], from: usize, to: usize) -> bool
@@ -29,32 +28,32 @@ fn same_run(a: &[u8], b: &[u8], from: usize, to: usize) -> bool
 }
 
 // Whether a and b hold the same bytes from `start` up to `stop`, but for the reserved bytes of the k descriptors that stand in a from
-// `start` on and of those in them. What is left after the k is the name of the one that they stand in.
-fn same_within(a: &[u8], b: &[u8], k: usize, start: usize, stop: usize, left: usize) -> bool
-    requires { ⌜ RowInside (now a) k start stop left ⌝ }
+// `start` on and of those in them, which go no deeper than `levels`. What is left after the k is the name of the one that they stand in.
+fn same_within(a: &[u8], b: &[u8], k: usize, start: usize, stop: usize, levels: usize) -> bool
+    requires { ⌜ RowInside (now a) k start stop levels ⌝ }
     requires { ⌜ length (now a) ≤ length (now b) ⌝ }
     ensures { λ r. ⌜ r ≡ sameWithin (now (a .entry)) (now (b .entry)) k start stop ⌝ }
 {
     let mut p = start;
     let mut i = 0;
     while i < k {
-        let size = size_at(a, p);
-        let end = p + size;
-        if !same_run(a, b, p, p + 2) {
+        let end = p + size_at(a, p);
+        let reserved = reserved_at(p);
+        if !same_run(a, b, p, reserved) {
             return false;
         }
-        let f = fields(a, code_at(a, p), p, end);
-        let next = f.next;
+        let f = inside_of(a, p);
+        let at = f.at;
         let children = f.children;
-        if !same_run(a, b, p + 3, next) {
-            return false;
-        }
         if children == 0 {
-            if !same_run(a, b, next, end) {
+            if !same_run(a, b, reserved + 1, end) {
                 return false;
             }
         } else {
-            if !same_within(a, b, children, next, end, left - 1) {
+            if !same_run(a, b, reserved + 1, at) {
+                return false;
+            }
+            if !same_within(a, b, children, at, end, levels - 1) {
                 return false;
             }
         }
@@ -78,7 +77,7 @@ fn same_as_accepted(a: &[u8], b: &[u8]) -> bool
 
 // The answer for an input that is no descriptor.
 fn not_compared(number: u32, input: u32, place: usize) -> Compared
-    requires { ⌜ place ≤ descriptorLimit ⌝ }
+    requires { ⌜ place < 2 ^ 32 ⌝ }
     ensures { λ r. ⌜ r ≡ notCompared number input place ⌝ }
 {
     let answer = answered(number, input, place);

@@ -1,21 +1,22 @@
 // The normal form: "the same descriptor with every reserved byte zero".
 use descriptor::answer::Answer;
 use descriptor::answer::answered;
-use descriptor::fields::fields;
-use descriptor::header::code_at;
+use descriptor::header::reserved_at;
 use descriptor::header::size_at;
+use descriptor::inside::inside_of;
 use descriptor::limits::DEPTH_LIMIT;
 use descriptor::validate::validate;
 ghost use mathlib.Core.Path.{_≡_};
 ghost use Prim.Native.Nat.{_≤_};
 ghost use lib.ListN.{length};
-ghost use Rattle.descriptor.specs.Standing.{standingRow, forestOf};
+ghost use Rattle.descriptor.specs.inner.Standing.{standingRow, forestOf};
 ghost use Rattle.canonical.specs.Normal.{normalForm};
-ghost use Rattle.canonical.specs.Walk.{RowInside, clearForest};
+ghost use Rattle.canonical.specs.inner.Walk.{RowInside, clearForest};
 
 // Writes zero to the reserved bytes of the k descriptors that stand in d from `start` on and of those in them, at their places in out.
-fn clear_row(d: &[u8], out: &mut [u8], k: usize, start: usize, left: usize)
-    requires { ⌜ RowInside (now d) k start (length (now d)) left ⌝ }
+// They go no deeper than `levels`.
+fn clear_row(d: &[u8], out: &mut [u8], k: usize, start: usize, levels: usize)
+    requires { ⌜ RowInside (now d) k start (length (now d)) levels ⌝ }
     requires { ⌜ length (now d) ≤ length (now out) ⌝ }
     ensures { λ _. ⌜ now (out .exit) ≡ clearForest start (forestOf (standingRow (now (d .entry)) k start)) (now (out .entry)) ⌝ }
 {
@@ -24,12 +25,12 @@ fn clear_row(d: &[u8], out: &mut [u8], k: usize, start: usize, left: usize)
     while i < k {
         let size = size_at(d, p);
         let end = p + size;
-        out[p + 2] = 0;
-        let f = fields(d, code_at(d, p), p, end);
-        let next = f.next;
+        out[reserved_at(p)] = 0;
+        let f = inside_of(d, p);
+        let at = f.at;
         let children = f.children;
         if 0 < children {
-            clear_row(d, out, children, next, left - 1);
+            clear_row(d, out, children, at, levels - 1);
         }
         p = end;
         i += 1;

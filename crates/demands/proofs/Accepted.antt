@@ -11,7 +11,7 @@ use Rattle.descriptor.specs.Tree.{Tree, rowCount}
 use Rattle.descriptor.specs.Encoding.{Spells, Bytes, WithinLimits}
 use Rattle.descriptor.specs.Outcome.{Outcome, refused, read}
 use Rattle.descriptor.specs.Check.{checked}
-use Rattle.descriptor.specs.Answers.{accepted, noTable, descriptorCheck}
+use Rattle.descriptor.specs.Answers.{accepted, noRows, descriptorCheck}
 use Rattle.encoding.proofs.Accepted.{accepted-spells, spells-accepted, one-tree}
 use Rattle.descriptor.proofs.Places.{refused-number}
 
@@ -52,7 +52,7 @@ module _ (d : List ℕ) where
   pub one-description : (x y : Described d) → x .tree ≡ y .tree
   one-description x y = one-tree d (x .tree) (y .tree) (x .limits) (y .limits) (x .spelled) (y .spelled)
 
-  -- a refusal has a number other than 0, input 1 and the all-zero table
-  pub refused-answer : (number place : ℕ) → checked d ≡ refused number place → (0 < number) × (descriptorCheck d ≡ noTable number 1 place)
+  -- a refusal has a number other than 0, input 1 and no rows
+  pub refused-answer : (number place : ℕ) → checked d ≡ refused number place → (0 < number) × (descriptorCheck d ≡ noRows number 1 place)
   unfolding descriptorCheck
   refused-answer number place e = (refused-number d number place e, rw e refl)

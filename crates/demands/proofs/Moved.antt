@@ -13,10 +13,11 @@ use Rattle.number.specs.Endian.{be}
 use Rattle.descriptor.specs.Tree.{empty, items, pairs, text, dimensions, members, Tree, node, Forest, nil, cons}
 use Rattle.descriptor.specs.Outcome.{Outcome, read}
 use Rattle.descriptor.proofs.Outcomes.{Holds, found, holds-require, holds-andThen}
-use Rattle.flattened.specs.Width.{widthOf}
+use Rattle.descriptor.specs.Width.{widthOf}
 use Rattle.flattened.specs.Order.{big, numberAt}
 use Rattle.flattened.specs.Token.{scalar, string, sizes, Token}
-use Rattle.flattened.specs.Walk.{lengthLimit, token, scalarAt, plainAt, textAt, sizesAt, sizesFit, arrayAt, follow, repeat, walkFields, walk, walkAll}
+use Rattle.descriptor.specs.Limits.{lengthLimit}
+use Rattle.flattened.specs.Walk.{token, scalarAt, plainAt, textAt, sizesAt, sizesFit, arrayAt, follow, repeat, walkFields, walk, walkAll}
 
 -- the k bytes of s from a on stand in s′ from a′ on
 pub record Alike (s : List ℕ) (a : ℕ) (s′ : List ℕ) (a′ k : ℕ) : Type 0 where

@@ -13,10 +13,11 @@ use Rattle.descriptor.specs.Tree.{empty, items, pairs, text, dimensions, member
 use Rattle.descriptor.specs.Outcome.{Outcome}
 use Rattle.descriptor.proofs.Outcomes.{Holds, found, holds-require, holds-andThen}
 use Rattle.encoding.proofs.Slices.{slice-join}
-use Rattle.flattened.specs.Width.{widthOf}
+use Rattle.descriptor.specs.Width.{widthOf}
 use Rattle.flattened.specs.Order.{Order, numberAt}
 use Rattle.flattened.specs.Token.{TokenKind, string, Token, tokenBytes, joined}
-use Rattle.flattened.specs.Walk.{lengthLimit, token, scalarAt, plainAt, textAt, sizesAt, sizesFit, arrayAt, follow, repeat, walkFields, walk, walkAll}
+use Rattle.descriptor.specs.Limits.{lengthLimit}
+use Rattle.flattened.specs.Walk.{token, scalarAt, plainAt, textAt, sizesAt, sizesFit, arrayAt, follow, repeat, walkFields, walk, walkAll}
 
 -- a walk went over s from a up to b, and its tokens, joined, are those bytes
 pub record Over (s : List ℕ) (a b : ℕ) (ts : List Token) : Type 0 where

@@ -11,14 +11,14 @@ use lib.Dec.{leb}
 use lib.ListN.{length}
 use Rattle.descriptor.specs.Tree.{Tree, Forest}
 use Rattle.descriptor.specs.Outcome.{Outcome, refused, read, judge}
-use Rattle.descriptor.specs.Output.{Written, unwritten, writtenTo}
+use Rattle.descriptor.specs.Output.{Written, unwritten, writtenTo, given}
 use Rattle.descriptor.proofs.Outcomes.{holds-read}
 use Rattle.canonical.specs.Equality.{sameTree}
 use Rattle.canonical.proofs.Same.{same-tree, same-refl}
 use Rattle.flattened.specs.Order.{big}
 use Rattle.flattened.specs.Token.{Token}
 use Rattle.flattened.specs.Walk.{walkFields, walk}
-use Rattle.resolution.specs.Record.{joinedBytes, resolved, given}
+use Rattle.resolution.specs.Record.{joinedBytes, resolved}
 use Rattle.demands.proofs.Shape.{ClusterOf, Rig, Reader, FirstWrong, Gets, front, SameAnswer, Among, AllRight, Gives, Agree, Refused, forMember, forRoom}
 use Rattle.demands.proofs.Pieces.{Over}
 use Rattle.demands.proofs.Names.{names-read}

@@ -11,16 +11,16 @@ use lib.ListN.{length, drop}
 use lib.Seq.{take-append-seam}
 use Rattle.descriptor.specs.Limits.{dataLimit}
 use Rattle.descriptor.specs.Codes.{kindOf, isArray}
-use Rattle.descriptor.specs.Tree.{Name, Tree, node, members, Forest, fieldsSize}
+use Rattle.descriptor.specs.Tree.{Name, Tree, node, members, Forest, insideAt}
 use Rattle.descriptor.specs.Encoding.{WellFormed, AllWellFormed}
-use Rattle.descriptor.specs.Outcome.{read, judge}
+use Rattle.descriptor.specs.Outcome.{Outcome, refused, read, denied, granted, judge, settle}
 use Rattle.descriptor.specs.Check.{checked}
-use Rattle.descriptor.specs.Output.{unwritten, writtenTo}
+use Rattle.descriptor.specs.Output.{unwritten, writtenTo, given}
 use Rattle.descriptor.proofs.Outcomes.{Holds, found, holds-require, holds-andThen, holds-self, holds-read}
 use Rattle.flattened.specs.Order.{big}
 use Rattle.flattened.specs.Token.{Token}
 use Rattle.flattened.specs.Walk.{walkFields, walk, walkAll, walked}
-use Rattle.resolution.specs.Record.{Member, membersFrom, writerFields, readerNames, readerFields, joinedBytes, resolved, given}
+use Rattle.resolution.specs.Record.{Member, membersFrom, writerFields, readerNames, readerFields, joinedBytes, recordBytes, resolved}
 use Rattle.demands.proofs.Accepted.{described-read}
 use Rattle.demands.proofs.Shape.{ClusterOf, Rig, front, SameAnswer}
 use Rattle.demands.proofs.Members.{Listed, members-listed}
@@ -55,7 +55,7 @@ rig-walk w s f x = rw (x .cluster .top) at (holds-read (x .accepted) (walked-wal
 
 -- which are listed
 pub rig-members : (w s : List ℕ) (f : Forest) (x : Rig w s f)
-    → (ms : List Member) × (membersFrom f (4 + fieldsSize (members (x .cluster .count))) s 0 ≡ read (x .end) ms) × Listed s f 0 ms
+    → (ms : List Member) × (membersFrom f (insideAt 0 (members (x .cluster .count))) s 0 ≡ read (x .end) ms) × Listed s f 0 ms
 rig-members w s f x = holds-read (rig-walk w s f x) (members-listed s f _ 0)
 
 -- bytes that fit are written
@@ -82,10 +82,15 @@ given-none out number input place h = rw (ne-eqb number 0 (λ e. omega arith)) r
 pub resolved-by : (w r s out : List ℕ) {p q e k c l d last end : ℕ} {f g : Forest} {m n : Name} {ts : List Token} {all : List (List ℕ)} {ms : List Member}
     → checked w ≡ read p (node c (members k) f m) → checked r ≡ read q (node d (members l) g n)
     → walked big (node c (members k) f m) s ≡ read e ts → readerNames [] 0 g ≡ read last all
-    → membersFrom f (4 + fieldsSize (members k)) s 0 ≡ read end ms
+    → membersFrom f (insideAt 0 (members k)) s 0 ≡ read end ms
     → resolved w r s out ≡ judge (unwritten out) 2 (joinedBytes 0 g s ms) (λ xs. writtenTo out xs)
-unfolding resolved writerFields readerFields
-resolved-by w r s out ew er es eg ef = rw (ew, er, es, eg, ef) refl
+unfolding resolved recordBytes writerFields readerFields
+resolved-by w r s out {g = g} {ms = ms} ew er es eg ef = rw (ew, er, es, eg, ef) (settled (joinedBytes 0 g s ms))
+  where
+    settled : (o : Outcome (List ℕ))
+        → settle (unwritten out) (writtenTo out) (judge denied 2 o (λ xs. granted xs)) ≡ judge (unwritten out) 2 o (λ xs. writtenTo out xs)
+    settled (refused number place) = refl
+    settled (read at xs) = refl
 
 -- the same refusal, whatever the outputs hold
 pub same-refusal : (out out′ : List ℕ) (number input place : ℕ) → 0 < number → SameAnswer (unwritten out number input place) (unwritten out′ number input place)

@@ -9,12 +9,11 @@ use lib.ListN.{length, drop}
 use Rattle.descriptor.specs.Tree.{Name, unnamed, named, members, Tree, node, Forest, nil, cons}
 use Rattle.descriptor.specs.Outcome.{read}
 use Rattle.descriptor.specs.Answers.{accepted}
-use Rattle.descriptor.specs.Output.{Written, unwritten}
+use Rattle.descriptor.specs.Output.{Written, unwritten, given}
 use Rattle.canonical.specs.Equality.{sameName}
 use Rattle.flattened.specs.Order.{big}
 use Rattle.flattened.specs.Token.{Token, joined}
 use Rattle.flattened.specs.Walk.{walk, walked}
-use Rattle.resolution.specs.Record.{given}
 use Rattle.demands.proofs.Accepted.{Described}
 
 abbrev pub nameOf : Tree → Name

@@ -12,16 +12,16 @@ use Rattle.descriptor.specs.Codes.{kindOf, isArray}
 use Rattle.descriptor.specs.Tree.{Tree, node, Forest, nil, cons, childCount, rowCount, forestRows, height, forestHeight}
 use Rattle.descriptor.specs.Outcome.{Outcome, refused, read}
 use Rattle.descriptor.specs.Check.{Header, headerAt, fieldsAt, membersAt, nameAt, nodeAt, treeAt, checked}
-use Rattle.descriptor.specs.Table.{rowsOf, forestRowsOf, zeroRow, zeroRows, tableOf}
-use Rattle.descriptor.specs.Answers.{refusal, accepted, noTable, descriptorCheck}
-use Rattle.descriptor.specs.Standing.{standing, standingRow, isRead, forestOf}
-use Rattle.descriptor.specs.Filling.{ahead, TablePre, filled}
-use Rattle.descriptor.specs.Steps.{counted}
+use Rattle.descriptor.specs.Table.{rowsOf, forestRowsOf, zeroRow, tableOf}
+use Rattle.descriptor.specs.Answers.{refusal, accepted, descriptorCheck, withTable}
+use Rattle.descriptor.specs.inner.Standing.{standing, standingRow, isRead, forestOf}
+use Rattle.descriptor.specs.inner.Filling.{zeroRows, ahead, TablePre, filled}
+use Rattle.descriptor.specs.inner.Steps.{counted}
 use Rattle.descriptor.specs.declared.step.Step.{Step}
 use Rattle.descriptor.specs.declared.answer.Row.{Row}
 use Rattle.descriptor.specs.declared.answer.Answer.{Answer}
 use Rattle.descriptor.specs.declared.answer.Checked.{Checked}
-use Rattle.descriptor.specs.Filling.{Table}
+use Rattle.descriptor.specs.inner.Filling.{Table}
 use Rattle.descriptor.proofs.Outcomes.{Holds, found, holds-read, holds-andThen, holds-self}
 use Rattle.descriptor.proofs.Sizes.{header-fits}
 use Rattle.descriptor.proofs.Rows.{rows-length}
@@ -51,8 +51,8 @@ tree-rows : (s : List ℕ) (levels : ℕ) (a : Bool) (end p n : ℕ) → Holds (
 unfolding treeAt nodeAt rowCount
 tree-rows s zero a end p n = holds-andThen (header-fits s zero a end p n) (λ _ h fits. absurd (omega (arith, fits .depth)))
 tree-rows s (suc d) a end p n =
-    holds-andThen (header-fits s (suc d) a end p n) (λ _ h fits.
-    holds-andThen (holds-self (fieldsAt (kindOf (h .code)) s p (p + h .size))) (λ at b _.
+    holds-andThen (header-fits s (suc d) a end p n) (λ body h fits.
+    holds-andThen (holds-self (fieldsAt (kindOf (h .code)) s p body (p + h .size))) (λ at b _.
     holds-andThen
     (members-rows (λ q m. treeAt d s (isArray (kindOf (h .code))) (p + h .size) q m) (λ q m. tree-rows s d (isArray (kindOf (h .code))) (p + h .size) q m)
     (childCount b) at (n + 1) (omega (arith, fits .rows))) (λ next ts rows.
@@ -93,7 +93,7 @@ module _ (s : List ℕ) (q : ℕ) (t : Tree) (e : checked s ≡ read q t) (rows 
   table-begun = record {
     stands = ap isRead alone;
     from = omega arith;
-    small = accepted-standing s q t e .1 .1;
+    small = omega (arith, accepted-standing s q t e .1 .1);
     deep = omega arith;
     low = subst (λ (f : Forest). forestHeight f ≤ depthLimit) (sym alone-ahead) (omega (arith, standing-low s 0 q t (accepted-standing s q t e .0)));
     room = subst (λ (f : Forest). 0 + forestRows f ≤ rowLimit) (sym alone-ahead) (omega (arith, few-rows));
@@ -109,12 +109,12 @@ module _ (s : List ℕ) (q : ℕ) (t : Tree) (e : checked s ≡ read q t) (rows 
 
   -- the answer
   pub check-accepted : (n : ℕ) → n ≡ rowCount t → (answer : Answer) → answer ≡ refusal 0 0 n → rows ≡ zeroRows → (v : List Row) → v ≡ filled s depthLimit 1 emptyTable .rows
-      → record { answer = answer; rows = v } ≡ descriptorCheck s
+      → record { answer = answer; rows = v } ≡ withTable (descriptorCheck s)
   unfolding descriptorCheck
   check-accepted n en answer ea z v ev =
       (λ i. record { answer = (ea ∙ ap (λ (j : ℕ). accepted j) en) i; rows = (ev ∙ table-filled z) i }) ∙ rw e refl
 
 pub check-refused : (s : List ℕ) (number place : ℕ) → checked s ≡ refused number place → (answer : Answer) → answer ≡ refusal number 1 place → (rows : List Row)
-    → rows ≡ zeroRows → record { answer = answer; rows = rows } ≡ descriptorCheck s
-unfolding descriptorCheck
+    → rows ≡ zeroRows → record { answer = answer; rows = rows } ≡ withTable (descriptorCheck s)
+unfolding descriptorCheck zeroRows tableOf
 check-refused s number place e answer ea rows z = (λ i. record { answer = ea i; rows = z i }) ∙ rw e refl

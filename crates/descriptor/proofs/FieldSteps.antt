@@ -4,93 +4,116 @@ use mathlib.Core.Bool.{Bool, true, false}
 use mathlib.Core.List.{List}
 use Prim.Native.Nat.{ℕ, _+_, _-_, _*_, _%_, _<_, _≤_}
 use native.Mathlib.Omega.{arith}
-use borrow.Author.Tests.{leb-true, lt-ltb, le-ltb, eq-eqb, ne-eqb}
-use lib.Dec.{leb}
+use borrow.Author.Tests.{le-leb, lt-leb, lt-ltb, le-ltb, eq-eqb, ne-eqb}
 use lib.ListN.{length, getD}
-use Rattle.descriptor.specs.Limits.{countLimit}
-use Rattle.descriptor.specs.Codes.{enumeration, cluster}
-use Rattle.descriptor.specs.Outcome.{Outcome, refused, read, andThen, require}
-use Rattle.descriptor.specs.Tree.{Fields, countOf, childCount}
-use Rattle.descriptor.specs.Check.{countAt, itemsAt, fillAt, fieldsAt}
-use Rattle.descriptor.specs.Steps.{runAt, counted, fieldsStep, refusedStep, readStep}
+use Rattle.descriptor.specs.Limits.{countLimit, pairLimit, dimensionLimit}
+use Rattle.descriptor.specs.Codes.{enumeration, quantity, string, array, cluster}
+use Rattle.descriptor.specs.Outcome.{Outcome, refused, read, andThen}
+use Rattle.descriptor.specs.Tree.{pairs, dimensions, countOf, childCount}
+use Rattle.descriptor.specs.Places.{overrunPlace, contentsPlace}
+use Rattle.descriptor.specs.Check.{countAt, runAt, itemsAt, pairsAt, judged, baseFits, wordFits, fillAt, fieldsAt}
+use Rattle.descriptor.specs.inner.Steps.{counted, fieldsStep, refusedStep, readStep, entryFits, wordsAt}
 use Rattle.descriptor.specs.declared.step.Step.{Step}
-use Rattle.descriptor.proofs.Outcomes.{Holds, found, holds-read, holds-require, holds-andThen}
-use Rattle.descriptor.proofs.Sizes.{CountFits, count-fits}
-use Rattle.descriptor.proofs.Steps.{Got, got}
+use Rattle.descriptor.proofs.Outcomes.{holds-read}
+use Rattle.descriptor.proofs.Sizes.{CountFits, count-fits, length-pairsAt}
+use Rattle.descriptor.proofs.FieldKinds.{cluster-fields, enumeration-fields, string-fields, array-fields, quantity-fields}
+use Rattle.descriptor.proofs.Steps.{Got, got, lost}
 
-module _ (s : List ℕ) (p stop : ℕ) where
-  -- a count that is read is the step's
-  pub count-got : (most : ℕ) (c : Step) → c ≡ counted (λ k. k) (countAt s p stop most) → c .ok ≡ true
-      → countAt s p stop most ≡ read (c .next) (c .count)
-  count-got most c e q = let g = got (λ k. k) (λ _. 0) (countAt s p stop most) c e q in g .eq ∙ ap (λ (k : ℕ). read (c .next) k) (sym (g .counts))
+-- a number that is read is the step's value
+pub value-got : (o : Outcome ℕ) (c : Step) → c ≡ counted (λ k. k) o → c .ok ≡ true → o ≡ read (c .next) (c .value)
+value-got o c e q = let g = got (λ k. k) (λ _. 0) o c e q in g .eq ∙ ap (λ (k : ℕ). read (c .next) k) (sym (g .counts))
 
-  -- and is in range
-  pub count-range : (most : ℕ) (c : Step) → c ≡ counted (λ k. k) (countAt s p stop most) → c .ok ≡ true
-      → CountFits s p stop most (c .next) (c .count)
-  count-range most c e q = holds-read (count-got most c e q) (count-fits s p stop most)
+-- a step that is ok and has no children, by what was read
+pub step-got : (o : Outcome ℕ) (c : Step) → c ≡ counted (λ k. k) o → c .ok ≡ true → c ≡ readStep (c .next) (c .value) 0
+step-got o c e q = e ∙ ap (λ (x : Outcome ℕ). counted (λ k. k) x) (value-got o c e q)
+
+module _ (s : List ℕ) (p at stop : ℕ) where
+  -- a count that is read is in range
+  pub count-range : (most : ℕ) (c : Step) → c ≡ counted (λ k. k) (countAt s p at stop most) → c .ok ≡ true
+      → CountFits s at stop most (c .next) (c .value)
+  count-range most c e q = holds-read (value-got _ c e q) (count-fits s p at stop most)
+
+  -- a count that is refused refuses the fields
+  module _ (number place : ℕ) (e : countAt s p at stop countLimit ≡ refused number place) where
+    pub cluster-lost : fieldsStep (fieldsAt cluster s p at stop) ≡ refusedStep number place
+    cluster-lost = rw (cluster-fields s p at stop, e)
+
+    pub enumeration-lost : fieldsStep (fieldsAt enumeration s p at stop) ≡ refusedStep number place
+    enumeration-lost = rw (enumeration-fields s p at stop, e)
 
   module _ (q k : ℕ) where
-    pub cluster-read : countAt s p stop countLimit ≡ read q k → fieldsStep (fieldsAt cluster s p stop) ≡ readStep q k k
-    unfolding fieldsAt countOf childCount
-    cluster-read e = rw e
+    pub items-lost : (number place : ℕ) → countAt s p at stop countLimit ≡ read q k → itemsAt s p stop k q ≡ refused number place
+        → fieldsStep (fieldsAt enumeration s p at stop) ≡ refusedStep number place
+    items-lost number place e i = rw (enumeration-fields s p at stop, e, i)
 
-    -- an enumeration's count and items are read, up to `at`
-    module _ (e : countAt s p stop countLimit ≡ read q k) (at : ℕ) (xs : List (List ℕ)) (i : itemsAt s p stop k q ≡ read at xs) where
-      pub items-even : (at - p) % 2 ≡ 0 → fieldsStep (fieldsAt enumeration s p stop) ≡ readStep at (length xs) 0
-      unfolding fieldsAt fillAt countOf childCount
-      items-even h = rw (e, i) (simp (eq-eqb _ _ h))
+    pub cluster-read : countAt s p at stop countLimit ≡ read q k → fieldsStep (fieldsAt cluster s p at stop) ≡ readStep q k k
+    unfolding countOf childCount
+    cluster-read e = rw (cluster-fields s p at stop, e)
 
-      pub fill-missing : ((at - p) % 2 ≡ 0 → ⊥) → stop ≤ at → fieldsStep (fieldsAt enumeration s p stop) ≡ refusedStep 8 p
-      unfolding fieldsAt fillAt
-      fill-missing h g = rw (e, i) (simp (ne-eqb _ _ h, le-ltb _ _ g))
+    -- an enumeration's count and items are read, up to `last`
+    module _ (e : countAt s p at stop countLimit ≡ read q k) (last : ℕ) (xs : List (List ℕ)) (i : itemsAt s p stop k q ≡ read last xs) where
+      pub items-even : (last - p) % 2 ≡ 0 → fieldsStep (fieldsAt enumeration s p at stop) ≡ readStep last (length xs) 0
+      unfolding fillAt countOf childCount
+      items-even h = rw (enumeration-fields s p at stop, e, i) (simp (eq-eqb _ _ h))
 
-      pub fill-bad : ((at - p) % 2 ≡ 0 → ⊥) → at < stop → (getD s at 0 ≡ 0 → ⊥) → fieldsStep (fieldsAt enumeration s p stop) ≡ refusedStep 10 p
-      unfolding fieldsAt fillAt
-      fill-bad h g z = rw (e, i) (simp (ne-eqb _ _ h, lt-ltb _ _ g, ne-eqb _ _ z))
+      pub fill-missing : ((last - p) % 2 ≡ 0 → ⊥) → stop ≤ last → fieldsStep (fieldsAt enumeration s p at stop) ≡ refusedStep 8 (overrunPlace p stop)
+      unfolding fillAt
+      fill-missing h g = rw (enumeration-fields s p at stop, e, i) (simp (ne-eqb _ _ h, le-ltb _ _ g))
 
-      pub fill-read : ((at - p) % 2 ≡ 0 → ⊥) → at < stop → getD s at 0 ≡ 0 → fieldsStep (fieldsAt enumeration s p stop) ≡ readStep (at + 1) (length xs) 0
-      unfolding fieldsAt fillAt countOf childCount
-      fill-read h g z = rw (e, i) (simp (ne-eqb _ _ h, lt-ltb _ _ g, eq-eqb _ _ z))
+      pub fill-bad : ((last - p) % 2 ≡ 0 → ⊥) → last < stop → (getD s last 0 ≡ 0 → ⊥)
+          → fieldsStep (fieldsAt enumeration s p at stop) ≡ refusedStep 10 (contentsPlace p last)
+      unfolding fillAt
+      fill-bad h g z = rw (enumeration-fields s p at stop, e, i) (simp (ne-eqb _ _ h, lt-ltb _ _ g, ne-eqb _ _ z))
 
--- A count and its words, and what comes of them where each is judged by `test` and they say `make`: unit pairs and dimension words alike.
-module _ (s : List ℕ) (p stop most : ℕ) where
-  -- where the words end
-  pub run-range : Holds (λ q k. (q ≡ p + 6 + 4 * k) × (q ≤ stop)) (runAt s p stop most)
-  unfolding runAt
-  run-range =
-      holds-andThen (count-fits s p stop most) (λ at k c.
-      holds-require (leb (at + 4 * k) stop) 8 p (λ room. found (omega (arith, c .at), leb-true _ _ room)))
+      pub fill-read : ((last - p) % 2 ≡ 0 → ⊥) → last < stop → getD s last 0 ≡ 0 → fieldsStep (fieldsAt enumeration s p at stop) ≡ readStep (last + 1) (length xs) 0
+      unfolding fillAt countOf childCount
+      fill-read h g z = rw (enumeration-fields s p at stop, e, i) (simp (ne-eqb _ _ h, lt-ltb _ _ g, eq-eqb _ _ z))
 
-  module _ (test : ℕ → ℕ → Bool) (make : ℕ → ℕ → Fields) where
-    -- the fields, as the check has them
-    abbrev pub runFields : Outcome Fields
-    runFields =
-        andThen (countAt s p stop most)
-        (λ at k. require (leb (at + 4 * k) stop) 8 p (require (test k at) 10 p (read (at + 4 * k) (make k at))))
+  -- an array's fields are its dimension words, judged
+  pub array-words : fieldsAt array s p at stop ≡ andThen (wordsAt s false p at stop dimensionLimit) (λ last k. read last (dimensions k))
+  unfolding wordsAt entryFits
+  array-words = array-fields s p at stop ∙ words (runAt s p at stop dimensionLimit)
+    where
+      after : (last k : ℕ) (o : Outcome (Unit {0}))
+          → andThen o (λ _ _. read last (dimensions k)) ≡ andThen (andThen o (λ _ _. read last k)) (λ last k. read last (dimensions k))
+      after last k (refused number place) = refl
+      after last k (read q tt) = refl
 
-    -- what comes after the words
-    abbrev after : ℕ → ℕ → Outcome Fields
-    after next k = require (test k (p + 6)) 10 p (read next (make k (p + 6)))
+      words : (o : Outcome ℕ)
+          → andThen o (λ last k. andThen (judged (wordFits s) p k (at + 2)) (λ _ _. read last (dimensions k)))
+          ≡ andThen (andThen o (λ last k. andThen (judged (entryFits s false) p k (at + 2)) (λ _ _. read last k))) (λ last k. read last (dimensions k))
+      words (refused number place) = refl
+      words (read last k) = after last k (judged (wordFits s) p k (at + 2))
 
-    -- the fields are the words, and what comes after them
-    pub run-first : runFields ≡ andThen (runAt s p stop most) after
-    unfolding runAt
-    run-first = go (countAt s p stop most) (count-fits s p stop most)
-      where
-        go : (o : Outcome ℕ) → Holds (λ q k. CountFits s p stop most q k) o
-            → andThen o (λ at k. require (leb (at + 4 * k) stop) 8 p (require (test k at) 10 p (read (at + 4 * k) (make k at))))
-            ≡ andThen (andThen o (λ at k. require (leb (at + 4 * k) stop) 8 p (read (at + 4 * k) k))) after
-        go (refused number place) h = refl
-        go (read q k) h = either (leb (q + 4 * k) stop)
-          where
-            either : (b : Bool)
-                → require b 8 p (require (test k q) 10 p (read (q + 4 * k) (make k q))) ≡ andThen (require b 8 p (read (q + 4 * k) k)) after
-            either true = ap (λ (j : ℕ). require (test k j) 10 p (read (q + 4 * k) (make k j))) (holds-read refl h .at)
-            either false = refl
+  -- a physical quantity's are its unit pairs, and it has no children
+  pub quantity-words : fieldsStep (fieldsAt quantity s p at stop) ≡ counted (λ k. k) (wordsAt s true p at stop pairLimit)
+  unfolding wordsAt entryFits countOf childCount
+  quantity-words = ap fieldsStep (quantity-fields s p at stop) ∙ words (runAt s p at stop pairLimit)
+    where
+      after : (last k : ℕ) (o : Outcome (Unit {0}))
+          → fieldsStep (andThen o (λ _ _. read last (pairs (pairsAt s k (at + 2))))) ≡ counted (λ k. k) (andThen o (λ _ _. read last k))
+      after last k (refused number place) = refl
+      after last k (read q tt) = ap (λ (n : ℕ). readStep last n 0) (length-pairsAt s k (at + 2))
 
-    module _ (q k : ℕ) (e : runAt s p stop most ≡ read q k) where
-      pub run-bad : test k (p + 6) ≡ false → fieldsStep runFields ≡ refusedStep 10 p
-      run-bad b = ap (λ (o : Outcome Fields). fieldsStep o) (run-first ∙ ap (λ (o : Outcome ℕ). andThen o after) e) ∙ rw b refl
+      words : (o : Outcome ℕ)
+          → fieldsStep (andThen o (λ last k. andThen (judged (baseFits s) p k (at + 2)) (λ _ _. read last (pairs (pairsAt s k (at + 2))))))
+          ≡ counted (λ k. k) (andThen o (λ last k. andThen (judged (entryFits s true) p k (at + 2)) (λ _ _. read last k)))
+      words (refused number place) = refl
+      words (read last k) = after last k (judged (baseFits s) p k (at + 2))
 
-      pub run-read : test k (p + 6) ≡ true → fieldsStep runFields ≡ readStep q (countOf (make k (p + 6))) (childCount (make k (p + 6)))
-      run-read b = ap (λ (o : Outcome Fields). fieldsStep o) (run-first ∙ ap (λ (o : Outcome ℕ). andThen o after) e) ∙ rw b refl
+  -- a string's length word is missing, wrong, or read
+  pub text-missing : stop < at + 4 → fieldsStep (fieldsAt string s p at stop) ≡ refusedStep 8 (overrunPlace p stop)
+  text-missing h = rw (string-fields s p at stop) (simp (lt-leb _ _ h))
+
+  module _ (room : at + 4 ≤ stop) (j : Step) (e : j ≡ counted (λ _. 0) (judged (entryFits s false) p 1 at)) where
+    pub text-judged : j .ok ≡ false → j ≡ fieldsStep (fieldsAt string s p at stop)
+    unfolding entryFits
+    text-judged q =
+        let l = lost (λ _. 0) (λ _. 0) (judged (wordFits s) p 1 at) j e q in
+        l .same ∙ sym (rw (string-fields s p at stop, le-leb _ _ room, l .eq) refl)
+
+    pub text-read : j .ok ≡ true → readStep (at + 4) 0 0 ≡ fieldsStep (fieldsAt string s p at stop)
+    unfolding entryFits countOf childCount
+    text-read q =
+        let g = got (λ _. 0) (λ _. 0) (judged (wordFits s) p 1 at) j e q in
+        sym (rw (string-fields s p at stop, le-leb _ _ room, g .eq) refl)

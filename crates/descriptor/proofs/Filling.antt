@@ -9,22 +9,22 @@ use borrow.Author.Tests.{eq-eqb, ne-eqb, eqb-true, eqb-false}
 use lib.Dec.{leb, ltb, eqb}
 use lib.ListN.{length, getD, set, length-append}
 use lib.Seq.{slice, sets, set-comm, length-slice}
-use Rattle.number.specs.Endian.{be}
 use Rattle.number.proofs.Writing.{sets-append}
-use Rattle.descriptor.specs.Limits.{descriptorLimit, rowLimit, depthLimit, countLimit, pairLimit, dimensionLimit}
+use Rattle.descriptor.specs.Limits.{rowLimit, depthLimit, countLimit, pairLimit, dimensionLimit}
 use Rattle.descriptor.specs.Codes.{Kind, plain, enumeration, quantity, string, array, cluster, unknown, kindOf}
-use Rattle.descriptor.specs.Tree.{Name, unnamed, named, Fields, Tree, node, Forest, nil, cons, childCount, countOf, fieldsSize, treeSize, forestSize, rowCount, forestRows, height, forestHeight}
+use Rattle.descriptor.specs.Header.{bodyAt, sizeIn, codeIn}
+use Rattle.descriptor.specs.Tree.{Name, unnamed, named, Fields, empty, items, pairs, text, dimensions, members, insideAt, Tree, node, Forest, nil, cons, childCount, countOf, fieldsSize, treeSize, forestSize, rowCount, forestRows, height, forestHeight}
 use Rattle.descriptor.specs.Outcome.{Outcome, refused, read}
-use Rattle.descriptor.specs.Check.{pairsAt, basesFit, wordsFit, fillAt, fieldsAt, nameAt}
+use Rattle.descriptor.specs.Check.{fieldsRead, contentsAt, filledAt, fieldsAt, nameAt}
 use Rattle.descriptor.specs.Table.{namePlace, nameLength, rowOf, rowsOf, forestRowsOf}
-use Rattle.descriptor.specs.Standing.{standing, standingRow, isRead, nextOf, forestOf}
-use Rattle.descriptor.specs.Filling.{rowRead, ahead, RowPre, TablePre, filled}
-use Rattle.descriptor.specs.Steps.{fieldsStep, readStep}
-use Rattle.descriptor.specs.declared.step.Step.{Step}
+use Rattle.descriptor.specs.Places.{restPlace}
+use Rattle.descriptor.specs.inner.Standing.{standing, standingRow, isRead, nextOf, forestOf, fieldsOf, shapeOf}
+use Rattle.descriptor.specs.inner.Filling.{rowRead, ahead, RowPre, TablePre, filled}
+use Rattle.descriptor.specs.declared.inside.Inside.{Inside}
 use Rattle.descriptor.specs.declared.answer.Row.{Row}
-use Rattle.descriptor.specs.Filling.{Table}
-use Rattle.descriptor.proofs.Outcomes.{Holds, nothing, found, holds-require, holds-cond, holds-andThen, holds-read}
-use Rattle.descriptor.proofs.Sizes.{count-fits, items-end, length-pairsAt}
+use Rattle.descriptor.specs.inner.Filling.{Table}
+use Rattle.descriptor.proofs.Outcomes.{Holds, nothing, found, holds-require, holds-cond, holds-andThen, holds-read, holds-self}
+use Rattle.descriptor.proofs.Sizes.{count-fits, run-fits, items-end, length-pairsAt}
 use Rattle.descriptor.proofs.Rows.{rows-length}
 use Rattle.descriptor.proofs.Standing.{Opened, open-standing, row-split, row-none}
 use Rattle.descriptor.proofs.Steps.{impossible}
@@ -55,6 +55,7 @@ pub record First (s : List ℕ) (left k : ℕ) (t : Table) : Type 0 where
   pub others : Forest
   pub next : ℕ
   pub row : standingRow s (suc k) (t .at) ≡ read next (cons (node code fields inside name) others)
+  pub stands : standing s (t .at) ≡ read (t .at + treeSize (node code fields inside name)) (node code fields inside name)
   pub opened : Opened s (t .at) (t .at + treeSize (node code fields inside name)) code fields inside name
   pub rest : standingRow s k (t .at + treeSize (node code fields inside name)) ≡ read next others
 
@@ -71,6 +72,7 @@ first s left k t pre = split (stands-read (standingRow s (suc k) (t .at)) (pre .
       others = g;
       next = r;
       row = e;
+      stands = a;
       opened = open-standing s (t .at) (t .at + treeSize (node c b f m)) c b f m a;
       rest = d;
     }
@@ -95,8 +97,8 @@ unfolding nameAt namePlace nameLength
 name-numbers s p stop at inside =
     holds-cond (eqb at stop) (λ e. found (rw e refl, rw e refl))
     (λ e.
-    holds-require (eqb (at + 1 + getD s at 0 + (1 + getD s at 0) % 2) stop) 11 p (λ whole.
-    holds-require (eqb ((1 + getD s at 0) % 2) 0 || eqb (getD s (at + 1 + getD s at 0) 0) 0) 11 p (λ _.
+    holds-require (eqb (at + 1 + getD s at 0 + (1 + getD s at 0) % 2) stop) 11 (restPlace p at) (λ whole.
+    holds-require (eqb ((1 + getD s at 0) % 2) 0 || eqb (getD s (at + 1 + getD s at 0) 0) 0) 11 (restPlace p at) (λ _.
     let w : at + 1 + getD s at 0 + (1 + getD s at 0) % 2 ≡ stop = eqb-true _ _ whole in
     let len : length (slice (at + 1) (at + 1 + getD s at 0) s) ≡ at + 1 + getD s at 0 - (at + 1) = length-slice (at + 1) (at + 1 + getD s at 0) s (omega arith) in
     let same : getD s at 0 ≡ length (slice (at + 1) (at + 1 + getD s at 0) s) = omega arith in
@@ -123,7 +125,7 @@ module _ (s : List ℕ) (left k : ℕ) (t : Table) (pre : TablePre s left (suc k
 
     -- where the first one's children stand
     abbrev pub body : ℕ
-    body = t .at + 4 + fieldsSize (w .fields)
+    body = insideAt (t .at) (w .fields)
 
     -- the table at the first one's children
     abbrev pub begun : Table
@@ -191,14 +193,14 @@ module _ (s : List ℕ) (left k : ℕ) (t : Table) (pre : TablePre s left (suc k
         refl
 
     -- the row as the code makes it
-    pub row-is : rowRead s (depthLimit + 1 - left) (t .at) (w .code) (be s (t .at) 2) (countOf (w .fields)) (body + forestSize (w .inside))
+    pub row-is : rowRead s (depthLimit + 1 - left) (t .at) (w .code) (sizeIn s (t .at)) (countOf (w .fields)) (body + forestSize (w .inside))
         ≡ rowOf (t .at) (depthLimit + 1 - left) tree
     unfolding rowRead rowOf
     row-is =
-        let size : be s (t .at) 2 ≡ treeSize tree = omega (arith, w .opened .size) in
+        let size : sizeIn s (t .at) ≡ treeSize tree = omega (arith, w .opened .size) in
         let at = body + forestSize (w .inside) in
         let numbers = holds-read (w .opened .name) (name-numbers s (t .at) (t .at + treeSize tree) at (w .opened .inside)) in
-        let stop : t .at + be s (t .at) 2 ≡ t .at + treeSize tree = omega arith in
+        let stop : t .at + sizeIn s (t .at) ≡ t .at + treeSize tree = omega arith in
         λ i. record {
           code = w .code;
           start = t .at;
@@ -221,56 +223,54 @@ filled-none s left t =
     (ap nextOf (row-none s (t .at)))
 
 -- a body's count fits a row
-pub fields-count : (k : Kind) (s : List ℕ) (p stop : ℕ) → stop ≤ length s → Holds (λ q b. countOf b ≤ countLimit) (fieldsAt k s p stop)
-unfolding fieldsAt fillAt countOf
-fields-count plain s p stop inside = found (omega arith)
-fields-count enumeration s p stop inside =
-    holds-andThen (count-fits s p stop countLimit) (λ at k c.
-    holds-andThen (items-end s p stop inside k at (c .within)) (λ next xs i.
-    holds-cond (eqb ((next - p) % 2) 0) (λ _. found (omega (arith, i .1, c .limit)))
-    (λ _.
-    holds-require (ltb next stop) 8 p (λ _. holds-require (eqb (getD s next 0) 0) 10 p (λ _. found (omega (arith, i .1, c .limit)))))))
-fields-count quantity s p stop inside =
-    holds-andThen (count-fits s p stop pairLimit) (λ at k c.
-    holds-require (leb (at + 4 * k) stop) 8 p (λ _.
-    holds-require (basesFit (pairsAt s k at)) 10 p (λ _. found (omega (arith, length-pairsAt s k at, c .limit)))))
-fields-count string s p stop inside =
-    holds-require (leb (p + 8) stop) 8 p (λ _. holds-require (wordsFit s 1 (p + 4)) 10 p (λ _. found (omega arith)))
-fields-count array s p stop inside =
-    holds-andThen (count-fits s p stop dimensionLimit) (λ at k c.
-    holds-require (leb (at + 4 * k) stop) 8 p (λ _. holds-require (wordsFit s k at) 10 p (λ _. found (omega (arith, c .limit)))))
-fields-count cluster s p stop inside = holds-andThen (count-fits s p stop countLimit) (λ at k c. found (c .limit))
-fields-count unknown s p stop inside = nothing
+read-count : (k : Kind) (s : List ℕ) (p at stop : ℕ) → stop ≤ length s → Holds (λ q b. countOf b ≤ countLimit) (fieldsRead k s p at stop)
+unfolding fieldsRead countOf
+read-count plain s p at stop inside = found (omega arith)
+read-count enumeration s p at stop inside =
+    holds-andThen (count-fits s p at stop countLimit) (λ next k c.
+    holds-andThen (items-end s p stop inside k next (c .within)) (λ last xs i. found (omega (arith, i .1, c .limit))))
+read-count quantity s p at stop inside =
+    holds-andThen (run-fits s p at stop pairLimit) (λ last k r. found (omega (arith, length-pairsAt s k (at + 2), r .limit)))
+read-count string s p at stop inside = holds-require (leb (at + 4) stop) _ _ (λ _. found (omega arith))
+read-count array s p at stop inside = holds-andThen (run-fits s p at stop dimensionLimit) (λ last k r. found (omega (arith, r .limit)))
+read-count cluster s p at stop inside = holds-andThen (count-fits s p at stop countLimit) (λ last k c. found (c .limit))
+read-count unknown s p at stop inside = nothing
 
--- One turn of the filling as the code takes it: the first descriptor ahead, its size and its fields as they were read.
-module _ (s : List ℕ) (left k : ℕ) (t : Table) (pre : TablePre s left (suc k) t) (w : First s left k t) (size : ℕ) (es : size ≡ be s (t .at) 2) (b : Step)
-    (eb : b ≡ fieldsStep (fieldsAt (kindOf (getD s (t .at + 3) 0)) s (t .at) (t .at + size))) where
+pub fields-count : (k : Kind) (s : List ℕ) (p at stop : ℕ) → stop ≤ length s → Holds (λ q b. countOf b ≤ countLimit) (fieldsAt k s p at stop)
+unfolding fieldsAt
+fields-count k s p at stop inside =
+    holds-andThen (read-count k s p at stop inside) (λ next b few.
+    holds-andThen (holds-self (contentsAt s p at b)) (λ _ _ _. holds-andThen (holds-self (filledAt s p stop next b)) (λ last _ _. found few)))
+
+-- One turn of the filling as the code takes it: the first descriptor ahead, its size and what stands inside it.
+module _ (s : List ℕ) (left k : ℕ) (t : Table) (pre : TablePre s left (suc k) t) (w : First s left k t) (size : ℕ) (es : size ≡ sizeIn s (t .at)) (b : Inside)
+    (eb : b ≡ shapeOf s (t .at)) where
   abbrev here : Tree
   here = node (w .code) (w .fields) (w .inside) (w .name)
 
   abbrev kids : ℕ
-  kids = t .at + 4 + fieldsSize (w .fields)
+  kids = insideAt (t .at) (w .fields)
 
   -- where it ends
   pub turn-stop : t .at + size ≡ t .at + treeSize here
   turn-stop = omega (arith, w .opened .size)
 
   -- its fields
-  pub turn-fields : b ≡ readStep kids (countOf (w .fields)) (childCount (w .fields))
+  pub turn-fields : b ≡ record { at = kids; count = countOf (w .fields); children = childCount (w .fields) }
+  unfolding shapeOf fieldsOf
   turn-fields =
-      eb
-      ∙ (λ i. fieldsStep (fieldsAt (kindOf (sym (w .opened .code) i)) s (t .at) (turn-stop i)))
-      ∙ ap (λ (o : Outcome Fields). fieldsStep o) (w .opened .fields)
+      let is : fieldsOf (standing s (t .at)) ≡ w .fields = ap fieldsOf (w .stands) in
+      eb ∙ λ i. record { at = insideAt (t .at) (is i); count = countOf (is i); children = childCount (is i) }
 
   -- the table at its children
   abbrev pub turned : Table
-  turned = record { rows = t .rows; n = t .n + 1; at = b .next }
+  turned = record { rows = t .rows; n = t .n + 1; at = b .at }
 
   turned-is : record { rows = t .rows; n = t .n + 1; at = kids } ≡ turned
-  turned-is = λ i. record { rows = t .rows; n = t .n + 1; at = sym (ap (λ (x : Step). x .next) turn-fields) i }
+  turned-is = λ i. record { rows = t .rows; n = t .n + 1; at = sym (ap (λ (x : Inside). x .at) turn-fields) i }
 
   some : childCount (w .fields) ≡ b .children
-  some = sym (ap (λ (x : Step). x .children) turn-fields)
+  some = sym (ap (λ (x : Inside). x .children) turn-fields)
 
   pub turn-children : TablePre s (left - 1) (b .children) turned
   turn-children =
@@ -288,8 +288,8 @@ module _ (s : List ℕ) (left k : ℕ) (t : Table) (pre : TablePre s left (suc k
 
     pub turn-row : RowPre s (depthLimit + 1 - left) (t .at) size (b .count) (v .at)
     turn-row =
-        let count : b .count ≡ countOf (w .fields) = ap (λ (x : Step). x .count) turn-fields in
-        let most = holds-read (w .opened .fields) (fields-count (kindOf (w .code)) s (t .at) (t .at + treeSize here) (w .opened .inside)) in
+        let count : b .count ≡ countOf (w .fields) = ap (λ (x : Inside). x .count) turn-fields in
+        let most = holds-read (w .opened .fields) (fields-count (kindOf (w .code)) s (t .at) (bodyAt (t .at)) (t .at + treeSize here) (w .opened .inside)) in
         record {
           inside = omega (arith, turn-stop, w .opened .inside);
           small = pre .small;
@@ -299,11 +299,11 @@ module _ (s : List ℕ) (left k : ℕ) (t : Table) (pre : TablePre s left (suc k
         }
 
     -- the table after it
-    pub turn-done : (r : Row) → r ≡ rowRead s (depthLimit + 1 - left) (t .at) (getD s (t .at + 3) 0) size (b .count) (v .at)
+    pub turn-done : (r : Row) → r ≡ rowRead s (depthLimit + 1 - left) (t .at) (codeIn s (t .at)) size (b .count) (v .at)
         → record { rows = set (v .rows) (t .n) r; n = v .n; at = t .at + size } ≡ afterTree left t here
     turn-done r er =
         let row : r ≡ rowOf (t .at) (depthLimit + 1 - left) here =
         er
-        ∙ (λ i. rowRead s (depthLimit + 1 - left) (t .at) (sym (w .opened .code) i) (es i) (ap (λ (x : Step). x .count) turn-fields i) (turn-name i))
+        ∙ (λ i. rowRead s (depthLimit + 1 - left) (t .at) (sym (w .opened .code) i) (es i) (ap (λ (x : Inside). x .count) turn-fields i) (turn-name i))
         ∙ row-is s left k t pre w in
         (λ i. record { rows = set (v .rows) (t .n) r; n = v .n; at = turn-stop i }) ∙ filled-tree s left k t pre w r row v whole

@@ -1,4 +1,5 @@
 pub mod CodeKinds
+pub mod FieldKinds
 pub mod FieldSteps
 pub mod Members
 pub mod Names
@@ -7,8 +8,10 @@ pub mod Rows
 pub mod Runs
 pub mod Sizes
 pub mod Standing
+pub mod Bodies
 pub mod Steps
 pub mod Filling
 pub mod Resuming
 pub mod Places
 pub mod Checked
+pub mod Widths

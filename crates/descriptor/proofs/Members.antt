@@ -7,42 +7,30 @@ use Prim.Native.Nat.{ℕ, zero, suc, _+_, _-_, _<_, _≤_}
 use native.Mathlib.Nat.{sub-zero}
 use native.Mathlib.Numerals.{sub-one}
 use native.Mathlib.Omega.{arith}
-use borrow.Author.Tests.{eqb-true, eqb-false, eq-eqb, le-leb}
-use lib.Dec.{eqb}
+use borrow.Author.Tests.{eq-eqb, le-leb}
 use lib.ListN.{length}
 use Rattle.descriptor.specs.Limits.{descriptorLimit, depthLimit}
 use Rattle.descriptor.specs.Codes.{kindOf, isArray}
 use Rattle.descriptor.specs.Outcome.{Outcome, refused, read, andThen}
 use Rattle.descriptor.specs.Tree.{Name, Fields, Tree, node, Forest, nil, cons, childCount, rowCount, forestRows}
 use Rattle.descriptor.specs.Check.{Header, headerAt, fieldsAt, membersAt, nameAt, nodeAt, treeAt, checked}
-use Rattle.descriptor.specs.Steps.{counted, refusedStep, readStep, headOf}
-use Rattle.descriptor.specs.Promises.{rowStep}
+use Rattle.descriptor.specs.inner.Steps.{counted, refusedStep, readStep, headOf}
+use Rattle.descriptor.specs.inner.Promises.{rowStep}
 use Rattle.descriptor.specs.declared.step.Step.{Step}
 use Rattle.descriptor.specs.declared.header.Head.{Head}
 use Rattle.descriptor.proofs.Outcomes.{holds-read}
 use Rattle.descriptor.proofs.Sizes.{members-end, tree-ends}
-use Rattle.descriptor.proofs.CodeKinds.{array-code, other-code}
 use Rattle.descriptor.proofs.Runs.{one-less, none-left}
 use Rattle.descriptor.proofs.Steps.{impossible, Got, got}
 
--- the test by which the code knows an array
-pub array-test : (c : ℕ) → eqb c 64 ≡ isArray (kindOf c)
-array-test c = go (eqb c 64) refl
-  where
-    go : (b : Bool) → eqb c 64 ≡ b → eqb c 64 ≡ isArray (kindOf c)
-    go true e = e ∙ sym (array-code c (eqb-true c 64 e))
-    go false e = e ∙ sym (other-code c (eqb-false c 64 e))
-
 -- a head that is ok: the header that was read
 pub record HeadGot (o : Outcome Header) (h : Head) : Type 0 where
-  pub next : ℕ
-  pub eq : o ≡ read next (record { size = h .size; code = h .code })
+  pub eq : o ≡ read (h .body) (record { size = h .size; code = h .code })
 
 pub head-got : (o : Outcome Header) (h : Head) → h ≡ headOf o → h .ok ≡ true → HeadGot o h
 head-got (refused number place) h e q = impossible (sym (ap (λ (x : Head). x .ok) e) ∙ q)
-head-got (read next x) h e q = record {
-  next = next;
-  eq = λ i. read next (record { size = sym (ap (λ (y : Head). y .size) e) i; code = sym (ap (λ (y : Head). y .code) e) i });
+head-got (read body x) h e q = record {
+  eq = λ i. read (sym (ap (λ (y : Head). y .body) e) i) (record { size = sym (ap (λ (y : Head). y .size) e) i; code = sym (ap (λ (y : Head). y .code) e) i });
 }
 
 -- a head that is not: the refusal
@@ -62,14 +50,14 @@ abbrev below : List ℕ → ℕ → Bool → ℕ → ℕ → ℕ → Outcome Tre
 below s levels a stop q m = treeAt (levels - 1) s a stop q m
 
 -- a header that is read leaves the rest of the descriptor
-pub tree-opened : (levels : ℕ) (s : List ℕ) (a : Bool) (end p n next : ℕ) (h : Header) → 0 < levels → headerAt s levels a end p n ≡ read next h
-    → treeAt levels s a end p n ≡ nodeAt s (λ a stop q m. below s levels a stop q m) p n h
+pub tree-opened : (levels : ℕ) (s : List ℕ) (a : Bool) (end p n body : ℕ) (h : Header) → 0 < levels → headerAt s levels a end p n ≡ read body h
+    → treeAt levels s a end p n ≡ nodeAt s (λ a stop q m. below s levels a stop q m) p n body h
 unfolding treeAt
-tree-opened zero s a end p n next h l e = absurd (omega arith)
-tree-opened (suc d) s a end p n next h l e =
-    rw e (ap (λ (j : ℕ). nodeAt s (λ a stop q m. treeAt j s a stop q m) p n h) (sym (sub-one (suc d))))
+tree-opened zero s a end p n body h l e = absurd (omega arith)
+tree-opened (suc d) s a end p n body h l e =
+    rw e (ap (λ (j : ℕ). nodeAt s (λ a stop q m. treeAt j s a stop q m) p n body h) (sym (sub-one (suc d))))
 
-module _ (s : List ℕ) (f : Bool → ℕ → ℕ → ℕ → Outcome Tree) (p n : ℕ) (h : Header) where
+module _ (s : List ℕ) (f : Bool → ℕ → ℕ → ℕ → Outcome Tree) (p n body : ℕ) (h : Header) where
   abbrev stop : ℕ
   stop = p + h .size
 
@@ -78,22 +66,22 @@ module _ (s : List ℕ) (f : Bool → ℕ → ℕ → ℕ → Outcome Tree) (p n
   childrenFrom b at = membersAt (f (isArray (kindOf (h .code))) stop) (childCount b) at (n + 1)
 
   module _ (number place : ℕ) where
-    pub fields-lost : fieldsAt (kindOf (h .code)) s p stop ≡ refused number place → nodeAt s f p n h ≡ refused number place
+    pub fields-lost : fieldsAt (kindOf (h .code)) s p body stop ≡ refused number place → nodeAt s f p n body h ≡ refused number place
     unfolding nodeAt
     fields-lost e = rw e
 
-    pub children-lost : (at : ℕ) (b : Fields) → fieldsAt (kindOf (h .code)) s p stop ≡ read at b → childrenFrom b at ≡ refused number place
-        → nodeAt s f p n h ≡ refused number place
+    pub children-lost : (at : ℕ) (b : Fields) → fieldsAt (kindOf (h .code)) s p body stop ≡ read at b → childrenFrom b at ≡ refused number place
+        → nodeAt s f p n body h ≡ refused number place
     unfolding nodeAt
     children-lost at b e c = rw (e, c)
 
-    pub name-lost : (at next : ℕ) (b : Fields) (ts : Forest) → fieldsAt (kindOf (h .code)) s p stop ≡ read at b → childrenFrom b at ≡ read next ts
-        → nameAt s p stop next ≡ refused number place → nodeAt s f p n h ≡ refused number place
+    pub name-lost : (at next : ℕ) (b : Fields) (ts : Forest) → fieldsAt (kindOf (h .code)) s p body stop ≡ read at b → childrenFrom b at ≡ read next ts
+        → nameAt s p stop next ≡ refused number place → nodeAt s f p n body h ≡ refused number place
     unfolding nodeAt
     name-lost at next b ts e c m = rw (e, c, m)
 
-  pub node-read : (at next last : ℕ) (b : Fields) (ts : Forest) (m : Name) → fieldsAt (kindOf (h .code)) s p stop ≡ read at b
-      → childrenFrom b at ≡ read next ts → nameAt s p stop next ≡ read last m → nodeAt s f p n h ≡ read last (node (h .code) b ts m)
+  pub node-read : (at next last : ℕ) (b : Fields) (ts : Forest) (m : Name) → fieldsAt (kindOf (h .code)) s p body stop ≡ read at b
+      → childrenFrom b at ≡ read next ts → nameAt s p stop next ≡ read last m → nodeAt s f p n body h ≡ read last (node (h .code) b ts m)
   unfolding nodeAt
   node-read at next last b ts m e c d = rw (e, c, d)
 
@@ -172,7 +160,7 @@ no-children f stop k at n e w = record {
 
 -- some, read by the same rules
 pub some-children : (s : List ℕ) (levels : ℕ) (a : Bool) (stop k at n : ℕ) (w : Step) → stop ≤ length s → at ≤ stop
-    → w ≡ rowStep s levels a stop k at n → w .ok ≡ true → Inside (membersAt (λ q m. treeAt levels s a stop q m) k at n) stop n (w .next) (w .count)
+    → w ≡ rowStep s levels a stop k at n → w .ok ≡ true → Inside (membersAt (λ q m. treeAt levels s a stop q m) k at n) stop n (w .next) (w .value)
 some-children s levels a stop k at n w inside h e q =
     let g = got (λ f. n + forestRows f) (λ _. 0) (membersAt (λ q m. treeAt levels s a stop q m) k at n) w e q in
     record {

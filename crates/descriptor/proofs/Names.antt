@@ -11,7 +11,7 @@ use lib.ListN.{length, getD}
 use lib.Seq.{slice, length-slice}
 use Rattle.descriptor.specs.Check.{nameAt}
 use Rattle.descriptor.specs.Table.{nameLength}
-use Rattle.descriptor.specs.Steps.{counted, readStep}
+use Rattle.descriptor.specs.inner.Steps.{counted, readStep}
 
 -- a Pascal string with a zero byte after it where its bytes are odd in number
 pub name-read : (s : List ℕ) (p stop at : ℕ) → stop ≤ length s → (at ≡ stop → ⊥) → at + 1 + getD s at 0 + (1 + getD s at 0) % 2 ≡ stop

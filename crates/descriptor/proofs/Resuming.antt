@@ -6,17 +6,14 @@ use Prim.Native.Nat.{ℕ, zero, suc, _+_, _-_, _<_, _≤_}
 use native.Mathlib.Omega.{arith}
 use lib.ListN.{length, getD, set, replicate, length-set}
 use lib.Seq.{getD-set-same, getD-set-other}
-use Rattle.number.specs.Endian.{be}
 use Rattle.descriptor.specs.Limits.{rowLimit, depthLimit}
-use Rattle.descriptor.specs.Codes.{kindOf}
 use Rattle.descriptor.specs.Tree.{node}
-use Rattle.descriptor.specs.Check.{fieldsAt}
-use Rattle.descriptor.specs.Table.{zeroRows}
-use Rattle.descriptor.specs.Filling.{rowRead, RowPre, TablePre, emptyTable, filled, noneOpen}
-use Rattle.descriptor.specs.Steps.{fieldsStep}
-use Rattle.descriptor.specs.declared.step.Step.{Step}
+use Rattle.descriptor.specs.Header.{sizeIn, codeIn}
+use Rattle.descriptor.specs.inner.Standing.{shapeOf}
+use Rattle.descriptor.specs.inner.Filling.{zeroRows, rowRead, RowPre, TablePre, emptyTable, filled, noneOpen}
+use Rattle.descriptor.specs.declared.inside.Inside.{Inside}
 use Rattle.descriptor.specs.declared.answer.Row.{Row}
-use Rattle.descriptor.specs.Filling.{Table}
+use Rattle.descriptor.specs.inner.Filling.{Table}
 use Rattle.descriptor.specs.declared.table.Open.{Open}
 use Rattle.descriptor.proofs.Filling.{First, afterTree, pre-rest, filled-more, filled-none, low, room, turned, turn-children, turn-row, turn-done}
 
@@ -130,8 +127,8 @@ module _ (s : List ℕ) (goal t : Table) (os : List Open) (j : ℕ) (r : Resumin
 
 -- the first one ahead is opened
 module _ (s : List ℕ) (goal t : Table) (os : List Open) (level k : ℕ) (r : Resuming s goal t os level (suc k)) (w : First s (leftAt level) k t) (size : ℕ)
-    (es : size ≡ be s (t .at) 2) (code : ℕ) (ec : code ≡ getD s (t .at + 3) 0) (b : Step)
-    (eb : b ≡ fieldsStep (fieldsAt (kindOf code) s (t .at) (t .at + size))) where
+    (es : size ≡ sizeIn s (t .at)) (code : ℕ) (ec : code ≡ codeIn s (t .at)) (b : Inside)
+    (eb : b ≡ shapeOf s (t .at)) where
   abbrev left : ℕ
   left = leftAt level
 
@@ -139,14 +136,11 @@ module _ (s : List ℕ) (goal t : Table) (os : List Open) (level k : ℕ) (r : R
   opening = record { n = t .n; start = t .at; size = size; count = b .count; rest = k; code = code }
 
   abbrev begun : Table
-  begun = record { rows = t .rows; n = t .n + 1; at = b .next }
+  begun = record { rows = t .rows; n = t .n + 1; at = b .at }
 
   -- the table with its children's rows
   abbrev inner : Table
   inner = filled s (leftAt (suc level)) (b .children) begun
-
-  read-fields : b ≡ fieldsStep (fieldsAt (kindOf (getD s (t .at + 3) 0)) s (t .at) (t .at + size))
-  read-fields = eb ∙ ap (λ (x : ℕ). fieldsStep (fieldsAt (kindOf x) s (t .at) (t .at + size))) ec
 
   less : left - 1 ≡ leftAt (suc level)
   less = omega (arith, r .deep)
@@ -156,12 +150,12 @@ module _ (s : List ℕ) (goal t : Table) (os : List Open) (level k : ℕ) (r : R
 
   -- closed, it is the first one's rows
   closing : closed s level opening inner ≡ afterTree left t (node (w .code) (w .fields) (w .inside) (w .name))
-  closing = turn-done s left k t (r .pre) w size es b read-fields inner is-inner _
+  closing = turn-done s left k t (r .pre) w size es b eb inner is-inner _
       (ap (λ (x : ℕ). rowRead s (depthLimit + 1 - left) (t .at) x size (b .count) (inner .at)) ec)
 
   closes : Closes s level opening inner
   closes = record {
-    row = turn-row s left k t (r .pre) w size es b read-fields inner is-inner;
+    row = turn-row s left k t (r .pre) w size es b eb inner is-inner;
     place = omega (arith, room s left k t (r .pre) w);
     pre = subst (λ (x : Table). TablePre s left k x) (sym closing) (pre-rest s left k t (r .pre) w);
   }
@@ -176,16 +170,16 @@ module _ (s : List ℕ) (goal t : Table) (os : List Open) (level k : ℕ) (r : R
   same-depth : depthLimit + 1 - left ≡ level + 1
   same-depth = omega (arith, r .deep)
 
-  pub leaf-row : b .children ≡ 0 → RowPre s (level + 1) (t .at) size (b .count) (b .next)
+  pub leaf-row : b .children ≡ 0 → RowPre s (level + 1) (t .at) size (b .count) (b .at)
   leaf-row e =
-      subst (λ (x : ℕ). RowPre s x (t .at) size (b .count) (b .next)) same-depth
+      subst (λ (x : ℕ). RowPre s x (t .at) size (b .count) (b .at)) same-depth
       (subst (λ (x : Table). RowPre s (depthLimit + 1 - left) (t .at) size (b .count) (x .at)) (none-inside e) (closes .row))
 
-  pub resume-leaf : b .children ≡ 0 → (x : Row) → x ≡ rowRead s (level + 1) (t .at) code size (b .count) (b .next)
+  pub resume-leaf : b .children ≡ 0 → (x : Row) → x ≡ rowRead s (level + 1) (t .at) code size (b .count) (b .at)
       → Resuming s goal (record { rows = set (t .rows) (t .n) x; n = t .n + 1; at = t .at + size }) os level k
   resume-leaf e x ex =
       subst (λ (y : Row). Resuming s goal (record { rows = set (t .rows) (t .n) y; n = t .n + 1; at = t .at + size }) os level k)
-      (ap (λ (y : ℕ). rowRead s y (t .at) code size (b .count) (b .next)) same-depth ∙ sym ex)
+      (ap (λ (y : ℕ). rowRead s y (t .at) code size (b .count) (b .at)) same-depth ∙ sym ex)
       (subst (λ (y : Table). Resuming s goal (closed s level opening y) os level k) (none-inside e)
       (record {
         deep = r .deep;
@@ -204,7 +198,7 @@ module _ (s : List ℕ) (goal t : Table) (os : List Open) (level k : ℕ) (r : R
       record {
         deep = omega (arith, deep-left);
         long = length-set os level opening ∙ r .long;
-        pre = subst (λ (j : ℕ). TablePre s j (b .children) begun) less (turn-children s left k t (r .pre) w size es b read-fields);
+        pre = subst (λ (j : ℕ). TablePre s j (b .children) begun) less (turn-children s left k t (r .pre) w size es b eb);
         fits =
             subst (λ (x : Open). Closes s level x inner × Fits s kept level (filled s left (x .rest) (closed s level x inner))) there
             (closes, fits-set s os level opening level (omega arith) _ (subst (λ (x : Table). Fits s os level x) more (r .fits)));

@@ -2,7 +2,7 @@
 use mathlib.Core.Path.{_≡_, refl, ap, ap₂, _∙_}
 use Prim.Native.Nat.{ℕ, suc, _+_}
 use lib.ListN.{length, length-append}
-use Rattle.descriptor.specs.Tree.{Tree, node, Forest, nil, cons, treeSize, fieldsSize, rowCount, forestRows}
+use Rattle.descriptor.specs.Tree.{Tree, node, Forest, nil, cons, treeSize, insideAt, rowCount, forestRows}
 use Rattle.descriptor.specs.Table.{rowsOf, forestRowsOf}
 
 mutual
@@ -10,7 +10,7 @@ mutual
 
   -- a tree
   pub rows-length : (t : Tree) (p depth : ℕ) → length (rowsOf p depth t) ≡ rowCount t
-  rows-length (node c b f m) p depth = ap suc (forest-rows-length f (p + 4 + fieldsSize b) (depth + 1))
+  rows-length (node c b f m) p depth = ap suc (forest-rows-length f (insideAt p b) (depth + 1))
 
   -- descriptors in a row
   pub forest-rows-length : (f : Forest) (p depth : ℕ) → length (forestRowsOf p depth f) ≡ forestRows f

@@ -1,18 +1,16 @@
 -- What the loops over items, pairs and words keep: the answer from here is the answer from the start. Assumes nothing.
 use mathlib.Core.Path.{_≡_, refl, ap, sym, _∙_}
-use mathlib.Core.Bool.{Bool, true, false, _&&_}
+use mathlib.Core.Bool.{Bool, true, false}
 use mathlib.Core.List.{List, [], _∷_}
 use Prim.Native.Nat.{ℕ, zero, suc, _+_, _-_, _*_, _<_, _≤_}
 use native.Mathlib.Nat.{sub-zero, add-suc, suc-add}
 use native.Mathlib.Omega.{arith}
-use borrow.Author.Tests.{le-leb, lt-leb, lt-ltb, le-ltb, eq-eqb, ne-eqb}
-use lib.Dec.{leb, ltb, eqb}
+use borrow.Author.Tests.{le-leb, lt-leb, lt-ltb, le-ltb}
 use lib.ListN.{length, getD}
-use Rattle.number.specs.Endian.{be}
-use Rattle.descriptor.specs.Limits.{baseLimit}
 use Rattle.descriptor.specs.Outcome.{Outcome, refused, read, andThen}
-use Rattle.descriptor.specs.Check.{itemAt, itemsAt, pairsAt, basesFit, wordsFit}
-use Rattle.descriptor.specs.Steps.{counted, refusedStep, readStep}
+use Rattle.descriptor.specs.Places.{overrunPlace, contentsPlace}
+use Rattle.descriptor.specs.Check.{itemAt, itemsAt, judged}
+use Rattle.descriptor.specs.inner.Steps.{counted, refusedStep, readStep}
 use Rattle.descriptor.specs.declared.step.Step.{Step}
 use Rattle.descriptor.proofs.Steps.{counts-agree}
 
@@ -52,11 +50,11 @@ module _ (s : List ℕ) (p stop : ℕ) where
       go x (read last xs) = let e : i + suc (length xs) ≡ i + 1 + length xs = omega arith in ap (λ (j : ℕ). readStep last j 0) e
 
   -- no room for the next item
-  pub items-over : (k i at : ℕ) → stop ≤ at → itemsFrom i (suc k) at ≡ refusedStep 8 p
+  pub items-over : (k i at : ℕ) → stop ≤ at → itemsFrom i (suc k) at ≡ refusedStep 8 (overrunPlace p stop)
   unfolding itemsAt itemAt
   items-over k i at h = simp (le-ltb at stop h)
 
-  pub items-cut : (k i at : ℕ) → at < stop → stop < at + 1 + getD s at 0 → itemsFrom i (suc k) at ≡ refusedStep 8 p
+  pub items-cut : (k i at : ℕ) → at < stop → stop < at + 1 + getD s at 0 → itemsFrom i (suc k) at ≡ refusedStep 8 (overrunPlace p stop)
   unfolding itemsAt itemAt
   items-cut k i at h g = simp (lt-ltb at stop h, lt-leb (at + 1 + getD s at 0) stop g)
 
@@ -65,39 +63,30 @@ module _ (s : List ℕ) (p stop : ℕ) where
   unfolding itemsAt
   items-none i at = refl
 
--- a run of k entries of four bytes, each judged by a test
-pub record RunLoop (rest : ℕ → ℕ → Bool) (k start i at : ℕ) : Type 0 where
-  pub most : i ≤ k
-  pub here : at ≡ start + 4 * i
-  pub same : rest k start ≡ rest (k - i) at
+-- a run of k entries of four bytes, each judged by a test: what is judged from here on
+module _ (test : ℕ → Bool) (p : ℕ) where
+  abbrev pub judgedFrom : ℕ → ℕ → Step
+  judgedFrom k at = counted (λ _. 0) (judged test p k at)
 
-pub run-begin : (rest : ℕ → ℕ → Bool) (k start : ℕ) → RunLoop rest k start 0 start
-run-begin rest k start = record { most = omega arith; here = omega arith; same = ap (λ (j : ℕ). rest j start) (sym (sub-zero k)) }
+  pub record RunLoop (k start i at : ℕ) : Type 0 where
+    pub most : i ≤ k
+    pub here : at ≡ start + 4 * i
+    pub same : judgedFrom k start ≡ judgedFrom (k - i) at
 
-module _ (s : List ℕ) where
-  abbrev pub basesFrom : ℕ → ℕ → Bool
-  basesFrom k at = basesFit (pairsAt s k at)
+  pub run-begin : (k start : ℕ) → RunLoop k start 0 start
+  run-begin k start = record { most = omega arith; here = omega arith; same = ap (λ (j : ℕ). judgedFrom j start) (sym (sub-zero k)) }
 
-  pub base-good : (k at : ℕ) → be s at 2 ≤ baseLimit → basesFrom (suc k) at ≡ basesFrom k (at + 4)
-  unfolding basesFit pairsAt
-  base-good k at h = simp (le-leb (be s at 2) baseLimit h)
+  -- an entry that is right, and the others after it
+  pub entry-right : (k at : ℕ) → test at ≡ true → judgedFrom (suc k) at ≡ judgedFrom k (at + 4)
+  unfolding judged
+  entry-right k at h = rw h refl
 
-  pub base-bad : (k at : ℕ) → baseLimit < be s at 2 → basesFrom (suc k) at ≡ false
-  unfolding basesFit pairsAt
-  base-bad k at h = simp (lt-leb (be s at 2) baseLimit h)
+  -- one that is wrong
+  pub entry-wrong : (k at : ℕ) → test at ≡ false → judgedFrom (suc k) at ≡ refusedStep 10 (contentsPlace p at)
+  unfolding judged
+  entry-wrong k at h = rw h refl
 
-  pub bases-none : (at : ℕ) → basesFrom 0 at ≡ true
-  unfolding basesFit pairsAt
-  bases-none at = refl
-
-  pub word-good : (k at : ℕ) → be s at 4 ≡ 4294967295 → wordsFit s (suc k) at ≡ wordsFit s k (at + 4)
-  unfolding wordsFit
-  word-good k at h = simp (eq-eqb (be s at 4) 4294967295 h)
-
-  pub word-bad : (k at : ℕ) → (be s at 4 ≡ 4294967295 → ⊥) → wordsFit s (suc k) at ≡ false
-  unfolding wordsFit
-  word-bad k at h = simp (ne-eqb (be s at 4) 4294967295 h)
-
-  pub words-none : (at : ℕ) → wordsFit s 0 at ≡ true
-  unfolding wordsFit
-  words-none at = refl
+  -- none left
+  pub entries-none : (at : ℕ) → judgedFrom 0 at ≡ readStep at 0 0
+  unfolding judged
+  entries-none at = refl

@@ -10,12 +10,13 @@ use lib.Dec.{leb, ltb, eqb}
 use lib.ListN.{length, getD}
 use lib.Seq.{length-slice}
 use Rattle.number.specs.Endian.{be}
-use Rattle.descriptor.specs.Limits.{rowLimit, dimensionLimit, pairLimit, countLimit}
+use Rattle.descriptor.specs.Limits.{rowLimit, dimensionLimit, pairLimit, countLimit, highBit}
 use Rattle.descriptor.specs.Codes.{Kind, plain, enumeration, quantity, string, array, cluster, unknown, kindOf, isCarried, isArray}
-use Rattle.descriptor.specs.Tree.{Name, Fields, Tree, Forest, childCount, itemsSize, fieldsSize, nameSize, treeSize, forestSize, forestLength, rowCount}
+use Rattle.descriptor.specs.Header.{headerSize, bodyAt, sizeIn, codeIn}
+use Rattle.descriptor.specs.Tree.{Name, Fields, empty, items, pairs, text, dimensions, members, Tree, Forest, childCount, insideAt, itemsSize, fieldsSize, nameSize, treeSize, forestSize, forestLength, rowCount}
 use Rattle.descriptor.specs.Outcome.{Outcome, read}
-use Rattle.descriptor.specs.Check.{Header, headerAt, countAt, itemAt, itemsAt, fillAt, pairsAt, basesFit, wordsFit, fieldsAt, membersAt, nameAt, nodeAt, treeAt}
-use Rattle.descriptor.proofs.Outcomes.{Holds, nothing, found, holds-read, holds-require, holds-cond, holds-andThen, holds-weaken}
+use Rattle.descriptor.specs.Check.{Header, headerAt, countAt, runAt, itemAt, itemsAt, pairsAt, fieldsRead, contentsAt, fillAt, filledAt, fieldsAt, membersAt, nameAt, nodeAt, treeAt}
+use Rattle.descriptor.proofs.Outcomes.{Holds, nothing, found, holds-read, holds-require, holds-cond, holds-andThen, holds-weaken, holds-self}
 
 -- `size` bytes from p end at q, which is within `stop`
 pub record Ends (p stop size q : ℕ) : Type 0 where
@@ -32,12 +33,13 @@ pub both-true : {a b : Bool} → a ≡ true → b ≡ true → (a && b) ≡ true
 both-true {b = b} e f = ap (λ (t : Bool). t && b) e ∙ f
 
 -- what a header that was read says of itself
-pub record HeaderFits (s : List ℕ) (levels : ℕ) (inArray : Bool) (end p n : ℕ) (h : Header) : Type 0 where
-  pub size : h .size ≡ be s p 2
-  pub code : h .code ≡ getD s (p + 3) 0
-  pub small : h .size < 32768
+pub record HeaderFits (s : List ℕ) (levels : ℕ) (inArray : Bool) (end p n at : ℕ) (h : Header) : Type 0 where
+  pub body : at ≡ bodyAt p
+  pub size : h .size ≡ sizeIn s p
+  pub code : h .code ≡ codeIn s p
+  pub small : h .size < highBit
   pub even : h .size % 2 ≡ 0
-  pub least : 4 ≤ h .size
+  pub least : headerSize ≤ h .size
   pub within : p + h .size ≤ end
   pub carried : isCarried (kindOf (h .code)) ≡ true
   pub depth : 0 < levels
@@ -46,7 +48,7 @@ pub record HeaderFits (s : List ℕ) (levels : ℕ) (inArray : Bool) (end p n : 
 
 -- a header that is read fits
 pub header-fits : (s : List ℕ) (levels : ℕ) (inArray : Bool) (end p n : ℕ)
-    → Holds (λ q h. HeaderFits s levels inArray end p n h) (headerAt s levels inArray end p n)
+    → Holds (λ q h. HeaderFits s levels inArray end p n q h) (headerAt s levels inArray end p n)
 unfolding headerAt
 header-fits s levels inArray end p n =
     holds-require _ _ _ (λ room.
@@ -58,9 +60,10 @@ header-fits s levels inArray end p n =
     holds-require _ _ _ (λ element.
     let parts = and-true _ _ sized in
     let bounds = and-true _ _ (parts .1) in
-    let r : 4 ≤ end - p = leb-true _ _ room in
-    let w : be s p 2 ≤ end - p = leb-true _ _ (bounds .1) in
+    let r : headerSize ≤ end - p = leb-true _ _ room in
+    let w : sizeIn s p ≤ end - p = leb-true _ _ (bounds .1) in
     found (record {
+      body = refl;
       size = refl;
       code = refl;
       small = ltb-true _ _ small;
@@ -73,28 +76,53 @@ header-fits s levels inArray end p n =
       element = not-true _ element;
     }))))))))
 
--- what a count that was read says of itself
-pub record CountFits (s : List ℕ) (p stop most q k : ℕ) : Type 0 where
-  pub at : q ≡ p + 6
+-- what a count that was read at `at` says of itself
+pub record CountFits (s : List ℕ) (at stop most q k : ℕ) : Type 0 where
+  pub next : q ≡ at + 2
   pub within : q ≤ stop
-  pub word : k ≡ be s (p + 4) 2
+  pub word : k ≡ be s at 2
   pub least : 1 ≤ k
   pub limit : k ≤ most
 
 -- a count that is read fits
-pub count-fits : (s : List ℕ) (p stop most : ℕ) → Holds (λ q k. CountFits s p stop most q k) (countAt s p stop most)
+pub count-fits : (s : List ℕ) (p at stop most : ℕ) → Holds (λ q k. CountFits s at stop most q k) (countAt s p at stop most)
 unfolding countAt
-count-fits s p stop most =
+count-fits s p at stop most =
     holds-require _ _ _ (λ room.
     holds-require _ _ _ (λ range.
     let parts = and-true _ _ range in
-    found (record { at = refl; within = leb-true _ _ room; word = refl; least = leb-true _ _ (parts .0); limit = leb-true _ _ (parts .1) })))
+    found (record { next = refl; within = leb-true _ _ room; word = refl; least = leb-true _ _ (parts .0); limit = leb-true _ _ (parts .1) })))
+
+-- what a count with its words says of itself
+pub record RunFits (s : List ℕ) (at stop most q k : ℕ) : Type 0 where
+  pub next : q ≡ at + 2 + 4 * k
+  pub within : q ≤ stop
+  pub word : k ≡ be s at 2
+  pub least : 1 ≤ k
+  pub limit : k ≤ most
+
+-- a run that is read fits
+pub run-fits : (s : List ℕ) (p at stop most : ℕ) → Holds (λ q k. RunFits s at stop most q k) (runAt s p at stop most)
+unfolding runAt
+run-fits s p at stop most =
+    holds-andThen (count-fits s p at stop most) (λ next k c.
+    holds-require (leb (next + 4 * k) stop) _ _ (λ room.
+    found (record { next = omega (arith, c .next); within = leb-true _ _ room; word = c .word; least = c .least; limit = c .limit })))
 
 -- as many pairs as asked for
 pub length-pairsAt : (s : List ℕ) (k at : ℕ) → length (pairsAt s k at) ≡ k
 unfolding pairsAt
 length-pairsAt s zero at = refl
 length-pairsAt s (suc k) at = ap suc (length-pairsAt s k (at + 4))
+
+-- the bytes of a body's fields as they are read, before an enumeration's fill
+unfoldable readSize : Fields → ℕ
+readSize empty = 0
+readSize (items xs) = 2 + itemsSize xs
+readSize (pairs ps) = fieldsSize (pairs ps)
+readSize text = fieldsSize text
+readSize (dimensions k) = fieldsSize (dimensions k)
+readSize (members k) = fieldsSize (members k)
 
 module _ (s : List ℕ) (p stop : ℕ) (inside : stop ≤ length s) where
   -- a Pascal string
@@ -115,41 +143,44 @@ module _ (s : List ℕ) (p stop : ℕ) (inside : stop ≤ length s) where
       holds-andThen (items-end k next (i .within)) (λ last xs r.
       found (record { at = omega arith; within = r .0 .within }, ap suc (r .1))))
 
-  -- the zero byte after items
-  fill-ends : (at : ℕ) (xs : List (List ℕ)) → Ends (p + 6) stop (itemsSize xs) at
-      → Holds (λ q b. Ends (p + 4) stop (fieldsSize b) q) (fillAt s p stop at xs)
-  unfolding fillAt fieldsSize
-  fill-ends at xs i =
-      holds-cond (eqb ((at - p) % 2) 0)
-      (λ even. found (record { at = omega (arith, eqb-true); within = i .within }))
+  -- the fields of a body as they are read
+  read-ends : (k : Kind) (at : ℕ) → at ≤ stop → Holds (λ q b. Ends at stop (readSize b) q) (fieldsRead k s p at stop)
+  unfolding fieldsRead fieldsSize readSize
+  read-ends plain at h = found (record { at = omega arith; within = h })
+  read-ends enumeration at h =
+      holds-andThen (count-fits s p at stop countLimit) (λ next k c.
+      holds-andThen (items-end k next (c .within)) (λ last xs i. found (record { at = omega (arith, c .next, i .0 .at); within = i .0 .within })))
+  read-ends quantity at h =
+      holds-andThen (run-fits s p at stop pairLimit) (λ last k r.
+      found (record { at = omega (arith, r .next, length-pairsAt s k (at + 2)); within = r .within }))
+  read-ends string at h = holds-require (leb (at + 4) stop) _ _ (λ room. found (record { at = omega arith; within = leb-true _ _ room }))
+  read-ends array at h = holds-andThen (run-fits s p at stop dimensionLimit) (λ last k r. found (record { at = omega (arith, r .next); within = r .within }))
+  read-ends cluster at h = holds-andThen (count-fits s p at stop countLimit) (λ last k c. found (record { at = omega (arith, c .next); within = c .within }))
+  read-ends unknown at h = nothing
+
+  -- the zero byte after items, in a descriptor whose body starts an even number of bytes after it
+  filled-ends : (at next : ℕ) (b : Fields) → p ≤ at → (at - p) % 2 ≡ 0 → Ends at stop (readSize b) next
+      → Holds (λ q _. Ends at stop (fieldsSize b) q) (filledAt s p stop next b)
+  unfolding filledAt fillAt fieldsSize readSize
+  filled-ends at next empty h even e = found e
+  filled-ends at next (items xs) h even e =
+      holds-cond (eqb ((next - p) % 2) 0)
+      (λ same. found (record { at = omega (arith, eqb-true, e .at); within = e .within }))
       (λ odd.
-      holds-require (ltb at stop) _ _ (λ room.
-      holds-require (eqb (getD s at 0) 0) _ _ (λ _. found (record { at = omega (arith, eqb-false); within = omega (arith, ltb-true) }))))
+      holds-require (ltb next stop) _ _ (λ room.
+      holds-require (eqb (getD s next 0) 0) _ _ (λ _. found (record { at = omega (arith, eqb-false, e .at); within = omega (arith, ltb-true) }))))
+  filled-ends at next (pairs ps) h even e = found e
+  filled-ends at next text h even e = found e
+  filled-ends at next (dimensions k) h even e = found e
+  filled-ends at next (members k) h even e = found e
 
   -- the fields of a body
-  pub fields-end : (k : Kind) → p + 4 ≤ stop → Holds (λ q b. Ends (p + 4) stop (fieldsSize b) q) (fieldsAt k s p stop)
-  unfolding fieldsAt fieldsSize
-  fields-end plain h = found (record { at = omega arith; within = h })
-  fields-end enumeration h =
-      holds-andThen (count-fits s p stop countLimit) (λ at k c.
-      holds-andThen (items-end k at (c .within)) (λ next xs i.
-      fill-ends next xs (record { at = omega arith; within = i .0 .within })))
-  fields-end quantity h =
-      holds-andThen (count-fits s p stop pairLimit) (λ at k c.
-      holds-require (leb (at + 4 * k) stop) _ _ (λ room.
-      let r = leb-true _ _ room in
-      holds-require (basesFit (pairsAt s k at)) _ _ (λ _. found (record { at = omega (arith, length-pairsAt s k at); within = r }))))
-  fields-end string h =
-      holds-require (leb (p + 8) stop) _ _ (λ room.
-      let r = leb-true _ _ room in
-      holds-require (wordsFit s 1 (p + 4)) _ _ (λ _. found (record { at = omega arith; within = r })))
-  fields-end array h =
-      holds-andThen (count-fits s p stop dimensionLimit) (λ at k c.
-      holds-require (leb (at + 4 * k) stop) _ _ (λ room.
-      let r = leb-true _ _ room in
-      holds-require (wordsFit s k at) _ _ (λ _. found (record { at = omega arith; within = r }))))
-  fields-end cluster h = holds-andThen (count-fits s p stop countLimit) (λ at k c. found (record { at = omega arith; within = c .within }))
-  fields-end unknown h = nothing
+  pub fields-end : (k : Kind) (at : ℕ) → at ≡ bodyAt p → at ≤ stop → Holds (λ q b. Ends at stop (fieldsSize b) q) (fieldsAt k s p at stop)
+  unfolding fieldsAt
+  fields-end k at body h =
+      holds-andThen (read-ends k at h) (λ next b e.
+      holds-andThen (holds-self (contentsAt s p at b)) (λ _ _ _.
+      holds-andThen (filled-ends at next b (omega arith) (omega arith) e) (λ last _ f. found f)))
 
   -- a name, which ends where the descriptor does
   pub name-ends : (at : ℕ) → Holds (λ q m. (q ≡ at + nameSize m) × (q ≡ stop)) (nameAt s p stop at)
@@ -175,10 +206,11 @@ module _ (s : List ℕ) where
   -- a descriptor whose header is read, where f reads its children
   node-ends : (f : Bool → ℕ → ℕ → ℕ → Outcome Tree)
       → ((a : Bool) (stop p n : ℕ) → stop ≤ length s → Holds (λ q t. Ends p stop (treeSize t) q) (f a stop p n))
-      → (p n : ℕ) (h : Header) → 4 ≤ h .size → p + h .size ≤ length s → Holds (λ q t. Ends p (p + h .size) (treeSize t) q) (nodeAt s f p n h)
+      → (p n body : ℕ) (h : Header) → body ≡ bodyAt p → headerSize ≤ h .size → p + h .size ≤ length s
+      → Holds (λ q t. Ends p (p + h .size) (treeSize t) q) (nodeAt s f p n body h)
   unfolding nodeAt treeSize
-  node-ends f ends p n h least inside =
-      holds-andThen (fields-end s p (p + h .size) inside (kindOf (h .code)) (omega arith)) (λ at b eb.
+  node-ends f ends p n body h start least inside =
+      holds-andThen (fields-end s p (p + h .size) inside (kindOf (h .code)) body start (omega arith)) (λ at b eb.
       holds-andThen
       (members-end (p + h .size) (f (isArray (kindOf (h .code))) (p + h .size)) (λ q m. ends (isArray (kindOf (h .code))) (p + h .size) q m inside)
       (childCount b) at (n + 1) (eb .within)) (λ next ts es.
@@ -191,16 +223,17 @@ module _ (s : List ℕ) where
   tree-ends zero a end p n inside =
       holds-andThen (header-fits s zero a end p n) (λ _ h fits. absurd (omega (arith, fits .depth)))
   tree-ends (suc d) a end p n inside =
-      holds-andThen (header-fits s (suc d) a end p n) (λ _ h fits.
+      holds-andThen (header-fits s (suc d) a end p n) (λ body h fits.
       holds-weaken
-      (node-ends (λ a stop q m. treeAt d s a stop q m) (λ a stop q m i. tree-ends d a stop q m i) p n h (fits .least) (omega (arith, fits .within)))
+      (node-ends (λ a stop q m. treeAt d s a stop q m) (λ a stop q m i. tree-ends d a stop q m i) p n body h (fits .body) (fits .least)
+      (omega (arith, fits .within)))
       (λ q t e. record { at = e .at; within = omega (arith, fits .within, e .within) }))
 
 -- The same of what a reading is known to come to.
 module _ (s : List ℕ) (p stop : ℕ) (inside : stop ≤ length s) where
   -- the fields of a body
-  pub fields-size : (k : Kind) (q : ℕ) (b : Fields) → p + 4 ≤ stop → fieldsAt k s p stop ≡ read q b → q ≡ p + 4 + fieldsSize b
-  fields-size k q b h e = holds-read e (fields-end s p stop inside k h) .at
+  pub fields-size : (k : Kind) (q : ℕ) (b : Fields) → bodyAt p ≤ stop → fieldsAt k s p (bodyAt p) stop ≡ read q b → q ≡ insideAt p b
+  fields-size k q b h e = holds-read e (fields-end s p stop inside k (bodyAt p) refl h) .at
 
   -- a name
   pub name-size : (at q : ℕ) (m : Name) → nameAt s p stop at ≡ read q m → (q ≡ at + nameSize m) × (q ≡ stop)

@@ -7,41 +7,41 @@ use Prim.Native.Nat.{ℕ, zero, suc, _+_, _-_, _%_, _≤_, _<_}
 use native.Mathlib.Omega.{arith}
 use borrow.Author.Tests.{lt-ltb, le-leb, eq-eqb, eqb-true, leb-true}
 use lib.Dec.{leb, eqb}
-use lib.ListN.{length, getD}
-use Rattle.number.specs.Endian.{be}
-use Rattle.descriptor.specs.Limits.{descriptorLimit, rowLimit, depthLimit}
+use lib.ListN.{length}
+use Rattle.descriptor.specs.Limits.{descriptorLimit, rowLimit, depthLimit, highBit}
 use Rattle.descriptor.specs.Codes.{kindOf, isCarried, isArray}
-use Rattle.descriptor.specs.Tree.{Name, Fields, Tree, node, Forest, nil, cons, childCount, fieldsSize, treeSize, forestSize, forestLength, rowCount, height, forestHeight}
+use Rattle.descriptor.specs.Header.{headerSize, bodyAt, sizeIn, codeIn}
+use Rattle.descriptor.specs.Tree.{Name, Fields, Tree, node, Forest, nil, cons, childCount, insideAt, fieldsSize, treeSize, forestSize, forestLength, rowCount, height, forestHeight}
 use Rattle.descriptor.specs.Outcome.{Outcome, refused, read}
 use Rattle.descriptor.specs.Check.{Header, headerAt, fieldsAt, membersAt, nameAt, nodeAt, treeAt, checked}
-use Rattle.descriptor.specs.Standing.{standing, standingRow}
+use Rattle.descriptor.specs.inner.Standing.{standing, standingRow}
 use Rattle.descriptor.proofs.Outcomes.{Holds, found, holds-self, holds-read, holds-require, holds-andThen, holds-both, holds-weaken}
 use Rattle.descriptor.proofs.Sizes.{Ends, HeaderFits, header-fits, fields-end, name-ends, members-end, tree-ends}
 
 module _ (s : List ℕ) where
   -- a header that fits is read with wider settings
   header-wider : (levels more : ℕ) (a b : Bool) (end late p n m : ℕ) → levels ≤ more → end ≤ late → m ≤ n
-      → ((x : Bool) → (a && x) ≡ false → (b && x) ≡ false) → (h : Header) → HeaderFits s levels a end p n h
-      → headerAt s more b late p m ≡ read (p + 4) h
+      → ((x : Bool) → (a && x) ≡ false → (b && x) ≡ false) → (body : ℕ) (h : Header) → HeaderFits s levels a end p n body h
+      → headerAt s more b late p m ≡ read body h
   unfolding headerAt
-  header-wider levels more a b end late p n m deeper later fewer calm h fits =
-      let least : 4 ≤ be s p 2 = omega (arith, fits .least, fits .size) in
-      let within : be s p 2 ≤ late - p = omega (arith, fits .within, fits .size) in
-      let known : isCarried (kindOf (getD s (p + 3) 0)) ≡ true = ap (λ (c : ℕ). isCarried (kindOf c)) (sym (fits .code)) ∙ fits .carried in
-      let element : (b && isArray (kindOf (getD s (p + 3) 0))) ≡ false =
+  header-wider levels more a b end late p n m deeper later fewer calm body h fits =
+      let least : headerSize ≤ sizeIn s p = omega (arith, fits .least, fits .size) in
+      let within : sizeIn s p ≤ late - p = omega (arith, fits .within, fits .size) in
+      let known : isCarried (kindOf (codeIn s p)) ≡ true = ap (λ (c : ℕ). isCarried (kindOf c)) (sym (fits .code)) ∙ fits .carried in
+      let element : (b && isArray (kindOf (codeIn s p))) ≡ false =
       ap (λ (c : ℕ). b && isArray (kindOf c)) (sym (fits .code)) ∙ calm _ (fits .element) in
       simp (
-        le-leb 4 (late - p) (omega (arith, fits .least, fits .within)),
-        lt-ltb (be s p 2) 32768 (omega (arith, fits .small, fits .size)),
-        eq-eqb (be s p 2 % 2) 0 (ap (λ (k : ℕ). k % 2) (sym (fits .size)) ∙ fits .even),
-        le-leb 4 (be s p 2) least,
-        le-leb (be s p 2) (late - p) within,
+        le-leb headerSize (late - p) (omega (arith, fits .least, fits .within)),
+        lt-ltb (sizeIn s p) highBit (omega (arith, fits .small, fits .size)),
+        eq-eqb (sizeIn s p % 2) 0 (ap (λ (k : ℕ). k % 2) (sym (fits .size)) ∙ fits .even),
+        le-leb headerSize (sizeIn s p) least,
+        le-leb (sizeIn s p) (late - p) within,
         known,
         lt-ltb 0 more (omega (arith, fits .depth)),
         lt-ltb m rowLimit (omega (arith, fits .rows)),
         element,
       )
-      (λ j. read (p + 4) (record { size = sym (fits .size) j; code = sym (fits .code) j }))
+      (λ j. read (sym (fits .body) j) (record { size = sym (fits .size) j; code = sym (fits .code) j }))
 
 -- descriptors in a row, where g reads what f reads
 members-wider : (f g : ℕ → ℕ → Outcome Tree) → ((p n m : ℕ) → m ≤ n → Holds (λ q t. g p m ≡ read q t) (f p n)) → (k p n m : ℕ) → m ≤ n
@@ -55,13 +55,13 @@ members-wider f g wider (suc k) p n m fewer =
 module _ (s : List ℕ) where
   -- a descriptor whose header is read
   node-wider : (f g : Bool → ℕ → ℕ → ℕ → Outcome Tree)
-      → ((a : Bool) (stop p n m : ℕ) → m ≤ n → Holds (λ q t. g a stop p m ≡ read q t) (f a stop p n)) → (p n m : ℕ) (h : Header) → m ≤ n
-      → Holds (λ q t. nodeAt s g p m h ≡ read q t) (nodeAt s f p n h)
+      → ((a : Bool) (stop p n m : ℕ) → m ≤ n → Holds (λ q t. g a stop p m ≡ read q t) (f a stop p n)) → (p n m body : ℕ) (h : Header) → m ≤ n
+      → Holds (λ q t. nodeAt s g p m body h ≡ read q t) (nodeAt s f p n body h)
   unfolding nodeAt
-  node-wider f g wider p n m h fewer =
+  node-wider f g wider p n m body h fewer =
       let inArray : Bool = isArray (kindOf (h .code)) in
       let stop : ℕ = p + h .size in
-      holds-andThen (holds-self (fieldsAt (kindOf (h .code)) s p stop)) (λ at b eb.
+      holds-andThen (holds-self (fieldsAt (kindOf (h .code)) s p body stop)) (λ at b eb.
       holds-andThen
       (members-wider (f inArray stop) (g inArray stop) (λ q i j le. wider inArray stop q i j le) (childCount b) at (n + 1) (m + 1) (omega arith))
       (λ next ts es.
@@ -76,11 +76,11 @@ module _ (s : List ℕ) where
       holds-andThen (header-fits s zero a end p n) (λ _ h fits. absurd (omega (arith, fits .depth)))
   tree-wider (suc d) zero a b end late p n m deeper later fewer calm = absurd (omega arith)
   tree-wider (suc d) (suc e) a b end late p n m deeper later fewer calm =
-      holds-andThen (header-fits s (suc d) a end p n) (λ _ h fits.
+      holds-andThen (header-fits s (suc d) a end p n) (λ body h fits.
       holds-weaken
       (node-wider (λ i stop q j. treeAt d s i stop q j) (λ i stop q j. treeAt e s i stop q j)
-      (λ i stop q j k le. tree-wider d e i i stop stop q j k (omega arith) (omega arith) le (λ x z. z)) p n m h fewer)
-      (λ q t r. rw (header-wider s (suc d) (suc e) a b end late p n m deeper later fewer calm h fits) r))
+      (λ i stop q j k le. tree-wider d e i i stop stop q j k (omega arith) (omega arith) le (λ x z. z)) p n m body h fewer)
+      (λ q t r. rw (header-wider s (suc d) (suc e) a b end late p n m deeper later fewer calm body h fits) r))
 
 -- what stands at the place of an inner descriptor
 module _ (s : List ℕ) (levels : ℕ) (a : Bool) (end : ℕ) (deeper : levels ≤ depthLimit) (inside : end ≤ length s) where
@@ -114,8 +114,8 @@ tree-low : (s : List ℕ) (levels : ℕ) (a : Bool) (end p n : ℕ) → Holds (�
 unfolding treeAt nodeAt height
 tree-low s zero a end p n = holds-andThen (header-fits s zero a end p n) (λ _ h fits. absurd (omega (arith, fits .depth)))
 tree-low s (suc d) a end p n =
-    holds-andThen (header-fits s (suc d) a end p n) (λ _ h fits.
-    holds-andThen (holds-self (fieldsAt (kindOf (h .code)) s p (p + h .size))) (λ at b _.
+    holds-andThen (header-fits s (suc d) a end p n) (λ body h fits.
+    holds-andThen (holds-self (fieldsAt (kindOf (h .code)) s p body (p + h .size))) (λ at b _.
     holds-andThen
     (members-low d (λ q m. treeAt d s (isArray (kindOf (h .code))) (p + h .size) q m)
     (λ q m. tree-low s d (isArray (kindOf (h .code))) (p + h .size) q m) (childCount b) at (n + 1)) (λ next ts low.
@@ -123,17 +123,17 @@ tree-low s (suc d) a end p n =
 
 -- what the descriptor at p, which ends at q, is made of: its header, its fields, the descriptors in it, its name
 pub record Opened (s : List ℕ) (p q c : ℕ) (b : Fields) (f : Forest) (m : Name) : Type 0 where
-  pub code : c ≡ getD s (p + 3) 0
+  pub code : c ≡ codeIn s p
   pub carried : isCarried (kindOf c) ≡ true
-  pub size : q ≡ p + be s p 2
-  pub least : 4 ≤ be s p 2
+  pub size : q ≡ p + sizeIn s p
+  pub least : headerSize ≤ sizeIn s p
   pub inside : q ≤ length s
-  pub fields : fieldsAt (kindOf c) s p q ≡ read (p + 4 + fieldsSize b) b
-  pub body : p + 4 + fieldsSize b ≤ q
-  pub children : standingRow s (childCount b) (p + 4 + fieldsSize b) ≡ read (p + 4 + fieldsSize b + forestSize f) f
+  pub fields : fieldsAt (kindOf c) s p (bodyAt p) q ≡ read (insideAt p b) b
+  pub body : insideAt p b ≤ q
+  pub children : standingRow s (childCount b) (insideAt p b) ≡ read (insideAt p b + forestSize f) f
   pub count : forestLength f ≡ childCount b
-  pub within : p + 4 + fieldsSize b + forestSize f ≤ q
-  pub name : nameAt s p q (p + 4 + fieldsSize b + forestSize f) ≡ read q m
+  pub within : insideAt p b + forestSize f ≤ q
+  pub name : nameAt s p q (insideAt p b + forestSize f) ≡ read q m
   pub low : suc (forestHeight f) ≤ depthLimit
 
 -- the same of a tree
@@ -142,16 +142,16 @@ OpenedTree s p q (node c b f m) = Opened s p q c b f m
 
 module _ (s : List ℕ) where
   -- a descriptor whose header is read, with d left of the depth for its children
-  node-opens : (d : ℕ) (a : Bool) (end p n : ℕ) (h : Header) → d < depthLimit → end ≤ length s → HeaderFits s (suc d) a end p n h
-      → Holds (λ q t. OpenedTree s p q t) (nodeAt s (λ i stop q m. treeAt d s i stop q m) p n h)
+  node-opens : (d : ℕ) (a : Bool) (end p n body : ℕ) (h : Header) → d < depthLimit → end ≤ length s
+      → HeaderFits s (suc d) a end p n body h → Holds (λ q t. OpenedTree s p q t) (nodeAt s (λ i stop q m. treeAt d s i stop q m) p n body h)
   unfolding nodeAt OpenedTree
-  node-opens d a end p n h deep inside fits =
+  node-opens d a end p n body h deep inside fits =
       let stop : ℕ = p + h .size in
       let inArray : Bool = isArray (kindOf (h .code)) in
       let fit : stop ≤ length s = omega (arith, fits .within) in
-      let start : p + 4 ≤ stop = omega (arith, fits .least) in
+      let start : body ≤ stop = omega (arith, fits .body, fits .least) in
       let less : d ≤ depthLimit = omega arith in
-      holds-andThen (holds-both (fields-end s p stop fit (kindOf (h .code)) start) (holds-self (fieldsAt (kindOf (h .code)) s p stop))) (λ at b eb.
+      holds-andThen (holds-both (fields-end s p stop fit (kindOf (h .code)) body (fits .body) start) (holds-self (fieldsAt (kindOf (h .code)) s p body stop))) (λ at b eb.
       holds-andThen
       (holds-both
       (members-end stop (λ q m. treeAt d s inArray stop q m) (λ q m. tree-ends s d inArray stop q m fit) (childCount b) at (n + 1) (eb .0 .within))
@@ -159,8 +159,8 @@ module _ (s : List ℕ) where
       (members-stand s d inArray stop less fit (childCount b) at (n + 1))
       (members-low d (λ q m. treeAt d s inArray stop q m) (λ q m. tree-low s d inArray stop q m) (childCount b) at (n + 1)))) (λ next ts es.
       holds-andThen (holds-both (name-ends s p stop fit next) (holds-self (nameAt s p stop next))) (λ last name en.
-      let first : at ≡ p + 4 + fieldsSize b = eb .0 .at in
-      let after : next ≡ p + 4 + fieldsSize b + forestSize ts = omega (arith, es .0 .0 .at) in
+      let first : at ≡ insideAt p b = omega (arith, eb .0 .at, fits .body) in
+      let after : next ≡ insideAt p b + forestSize ts = omega (arith, es .0 .0 .at) in
       let ends : last ≡ stop = en .0 .1 in
       found (record {
         code = fits .code;
@@ -168,7 +168,7 @@ module _ (s : List ℕ) where
         size = omega (arith, fits .size);
         least = omega (arith, fits .size, fits .least);
         inside = omega arith;
-        fields = ap (λ (k : ℕ). fieldsAt (kindOf (h .code)) s p k) ends ∙ eb .1 ∙ ap (λ (k : ℕ). read k b) first;
+        fields = (λ j. fieldsAt (kindOf (h .code)) s p (sym (fits .body) j) (ends j)) ∙ eb .1 ∙ ap (λ (k : ℕ). read k b) first;
         body = omega (arith, eb .0 .within);
         children = ap (λ (k : ℕ). standingRow s (childCount b) k) (sym first) ∙ es .1 .0 ∙ ap (λ (k : ℕ). read k ts) after;
         count = es .0 .1;
@@ -183,7 +183,7 @@ module _ (s : List ℕ) where
   unfolding treeAt
   tree-opens zero a end p n deep inside = holds-andThen (header-fits s zero a end p n) (λ _ h fits. absurd (omega (arith, fits .depth)))
   tree-opens (suc d) a end p n deep inside =
-      holds-andThen (header-fits s (suc d) a end p n) (λ _ h fits. node-opens d a end p n h (omega arith) inside fits)
+      holds-andThen (header-fits s (suc d) a end p n) (λ body h fits. node-opens d a end p n body h (omega arith) inside fits)
 
   -- what a descriptor that stands somewhere is made of
   pub open-standing : (p q c : ℕ) (b : Fields) (f : Forest) (m : Name) → standing s p ≡ read q (node c b f m) → Opened s p q c b f m

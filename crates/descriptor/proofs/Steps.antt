@@ -4,7 +4,7 @@ use mathlib.Core.Bool.{Bool, true, false}
 use Prim.Native.Nat.{ℕ}
 use native.Mathlib.Omega.{arith}
 use Rattle.descriptor.specs.Outcome.{Outcome, refused, read, andThen}
-use Rattle.descriptor.specs.Steps.{stepOf, counted, refusedStep, readStep}
+use Rattle.descriptor.specs.inner.Steps.{stepOf, counted, refusedStep, readStep}
 use Rattle.descriptor.specs.declared.step.Step.{Step}
 
 -- a test cannot be both
@@ -15,7 +15,7 @@ impossible e = absurd (let z : _≡_ {A = ℕ} 0 1 = cc in omega arith)
 pub record Got {A : Type 0} (count children : A → ℕ) (o : Outcome A) (r : Step) : Type 0 where
   pub value : A
   pub eq : o ≡ read (r .next) value
-  pub counts : r .count ≡ count value
+  pub counts : r .value ≡ count value
   pub inside : r .children ≡ children value
 
 pub got : {A : Type 0} (count children : A → ℕ) (o : Outcome A) (r : Step) → r ≡ stepOf count children o → r .ok ≡ true
@@ -24,7 +24,7 @@ got count children (refused number place) r e q = impossible (sym (ap (λ (x : S
 got count children (read next x) r e q = record {
   value = x;
   eq = ap (λ (k : ℕ). read k x) (sym (ap (λ (y : Step). y .next) e));
-  counts = ap (λ (y : Step). y .count) e;
+  counts = ap (λ (y : Step). y .value) e;
   inside = ap (λ (y : Step). y .children) e;
 }
 

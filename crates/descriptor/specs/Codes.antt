@@ -1,4 +1,5 @@
--- The carried codes of document 01, "What the tracker reads", by the body that each has ("How a descriptor is built").
+-- The carried codes of document 01, "What the tracker reads", by the body that each has ("How a descriptor is built"). Codes are
+-- hexadecimal, as there.
 use mathlib.Core.Bool.{Bool, cond, _&&_, _||_}
 use Prim.Native.Nat.{ℕ}
 use lib.Dec.{leb, eqb}
@@ -20,6 +21,19 @@ pub data Kind : Type 0 where
   -- every other code: not carried
   unknown : Kind
 
+-- "21 (Boolean), 30 (string), 40 (array), 50 (cluster)"
+abbrev pub booleanCode : ℕ
+booleanCode = 0x21
+
+abbrev pub stringCode : ℕ
+stringCode = 0x30
+
+abbrev pub arrayCode : ℕ
+arrayCode = 0x40
+
+abbrev pub clusterCode : ℕ
+clusterCode = 0x50
+
 -- low ≤ c ≤ high
 abbrev pub between : ℕ → ℕ → ℕ → Bool
 between low high c = leb low c && leb c high
@@ -27,13 +41,17 @@ between low high c = leb low c && leb c high
 -- "01 to 08 (integers), 09 to 0B .., 0C to 0E .., 15 to 17 .., 19 to 1B and 1C to 1E .., 21 .., 30 .., 40 .., 50"
 unfoldable pub kindOf : ℕ → Kind
 kindOf c =
-    cond (between 1 14 c || eqb c 33) plain
-    (cond (between 21 23 c) enumeration
-    (cond (between 25 30 c) quantity
-    (cond (eqb c 48) string
-    (cond (eqb c 64) array
-    (cond (eqb c 80) cluster
+    cond (between 0x01 0x0E c || eqb c booleanCode) plain
+    (cond (between 0x15 0x17 c) enumeration
+    (cond (between 0x19 0x1E c) quantity
+    (cond (eqb c stringCode) string
+    (cond (eqb c arrayCode) array
+    (cond (eqb c clusterCode) cluster
     unknown)))))
+
+-- "0C to 0E (their complex kinds)" and "1C to 1E": two numbers, each half as wide
+abbrev pub isComplex : ℕ → Bool
+isComplex c = between 0x0C 0x0E c || between 0x1C 0x1E c
 
 abbrev pub isCarried : Kind → Bool
 isCarried unknown = Bool.false

@@ -7,7 +7,7 @@ use lib.ListN.{length, replicate}
 use Rattle.number.specs.Endian.{beBytes}
 use Rattle.descriptor.specs.Limits.{descriptorLimit, rowLimit, depthLimit, dimensionLimit, pairLimit, baseLimit, countLimit}
 use Rattle.descriptor.specs.Codes.{Kind, plain, enumeration, quantity, string, array, cluster, kindOf, isArray}
-use Rattle.descriptor.specs.Tree.{Name, unnamed, named, Pair, Fields, empty, items, pairs, text, dimensions, members, Tree, node, Forest, nil, cons, childCount, itemsSize, treeSize, fieldsSize, forestLength, rowCount, height}
+use Rattle.descriptor.specs.Tree.{Name, unnamed, named, Pair, Fields, empty, items, pairs, text, dimensions, members, Tree, node, Forest, nil, cons, childCount, itemsSize, treeSize, insideAt, forestLength, rowCount, height}
 
 -- "All words are big-endian": a 16-bit word
 abbrev pub word : ℕ → List ℕ
@@ -56,7 +56,7 @@ unfoldable mutual
   -- "A descriptor is a 16-bit size that counts itself, a 16-bit code whose high byte is reserved, a body, then perhaps a name."
   pub encodeWith : (ℕ → ℕ) → ℕ → Tree → List ℕ
   encodeWith r p (node c b f m) =
-      word (treeSize (node c b f m)) ++ (r p ∷ c ∷ (fieldBytes b ++ (forestWith r (p + 4 + fieldsSize b) f ++ nameBytes m)))
+      word (treeSize (node c b f m)) ++ (r p ∷ c ∷ (fieldBytes b ++ (forestWith r (insideAt p b) f ++ nameBytes m)))
 
   -- descriptors in a row, the first at p
   pub forestWith : (ℕ → ℕ) → ℕ → Forest → List ℕ

@@ -1,13 +1,13 @@
 pub mod Limits
 pub mod Codes
+pub mod Header
 pub mod Tree
 pub mod Encoding
 pub mod Outcome
+pub mod Places
 pub mod Check
 pub mod Table
 pub mod Answers
 pub mod Output
-pub mod Steps
-pub mod Promises
-pub mod Standing
-pub mod Filling
+pub mod Width
+pub mod inner

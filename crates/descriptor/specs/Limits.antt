@@ -1,5 +1,5 @@
 -- The limits of document 01, "What the tracker reads" (its house limits), said once.
-use Prim.Native.Nat.{ℕ}
+use Prim.Native.Nat.{ℕ, _^_}
 
 -- "descriptor 4,096 bytes"
 abbrev pub descriptorLimit : ℕ
@@ -32,3 +32,15 @@ countLimit = 65535
 -- "data 65,536 bytes"
 abbrev pub dataLimit : ℕ
 dataLimit = 65536
+
+-- "Lengths and sizes are below 2^31."
+abbrev pub lengthLimit : ℕ
+lengthLimit = 2 ^ 31
+
+-- 3: "size word's high bit set"
+abbrev pub highBit : ℕ
+highBit = 0x8000
+
+-- "30: the word FFFFFFFF", and "FFFFFFFF for each dimension"
+abbrev pub fixedWord : ℕ
+fixedWord = 0xFFFFFFFF

@@ -1,9 +1,9 @@
 -- What an output buffer holds after an answer: "A refusal .. writes nothing. On success, output beyond the length written keeps its bytes."
 use mathlib.Core.Bool.{cond}
-use mathlib.Core.List.{List, _++_}
+use mathlib.Core.List.{List, [], _++_}
 use Prim.Native.Nat.{ℕ}
-use lib.ListN.{length, drop}
-use lib.Dec.{leb}
+use lib.ListN.{length, take, drop}
+use lib.Dec.{leb, eqb}
 use Rattle.descriptor.specs.Answers.{refusal, accepted}
 use Rattle.descriptor.specs.declared.answer.Answer.{Answer}
 
@@ -22,3 +22,7 @@ writtenTo out bytes =
     cond (leb (length bytes) (length out))
     (record { answer = accepted (length bytes); out = bytes ++ drop (length bytes) out })
     (unwritten out 50 4 (length bytes))
+
+-- "The bytes given are those written, in order; a refusal gives none."
+unfoldable pub given : Written → List ℕ
+given w = cond (eqb (w .answer .number) 0) (take (w .answer .place) (w .out)) []

@@ -2,6 +2,7 @@
 use mathlib.Core.List.{List, [], _∷_}
 use Prim.Native.Nat.{ℕ, suc, _+_, _*_, _%_, max}
 use lib.ListN.{length}
+use Rattle.descriptor.specs.Header.{headerSize, bodyAt}
 
 -- "What is left is either nothing, or one Pascal string": none, or the characters, of which there may be none
 pub data Name : Type 0 where
@@ -70,6 +71,10 @@ fieldsSize text = 4
 fieldsSize (dimensions d) = 2 + 4 * d
 fieldsSize (members k) = 2
 
+-- where the descriptors in the body of the descriptor at p start: after its fields
+abbrev pub insideAt : ℕ → Fields → ℕ
+insideAt p b = bodyAt p + fieldsSize b
+
 -- "one Pascal string with one zero byte after it where needed to make the size even"
 unfoldable pub nameSize : Name → ℕ
 nameSize unnamed = 0
@@ -78,7 +83,7 @@ nameSize (named x) = suc (length x) + suc (length x) % 2
 unfoldable mutual
   -- "a 16-bit size that counts itself": the two words, the body and the name
   pub treeSize : Tree → ℕ
-  treeSize (node c b f m) = 4 + fieldsSize b + forestSize f + nameSize m
+  treeSize (node c b f m) = headerSize + fieldsSize b + forestSize f + nameSize m
 
   pub forestSize : Forest → ℕ
   forestSize nil = 0

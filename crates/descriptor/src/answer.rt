@@ -1,7 +1,6 @@
 // The types of the answers that document 01 gives.
 ghost use mathlib.Core.Path.{_≡_};
-ghost use Prim.Native.Nat.{_≤_};
-ghost use Rattle.descriptor.specs.Limits.{descriptorLimit};
+ghost use Prim.Native.Nat.{_<_, _^_};
 ghost use Rattle.descriptor.specs.Answers.{refusal};
 
 // Its number, the input at fault and a place.
@@ -12,9 +11,9 @@ pub struct Answer {
     pub place: u32,
 }
 
-// An answer, whose place lies in a descriptor.
+// An answer. Every place is a number of 32 bits.
 pub fn answered(number: u32, input: u32, place: usize) -> Answer
-    requires { ⌜ place ≤ descriptorLimit ⌝ }
+    requires { ⌜ place < 2 ^ 32 ⌝ }
     ensures { λ r. ⌜ r ≡ refusal number input place ⌝ }
 {
     Answer {

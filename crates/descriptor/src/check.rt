@@ -5,11 +5,11 @@ use super::table::tabulate;
 use super::table::zero_rows;
 use super::validate::validate;
 ghost use mathlib.Core.Path.{_≡_};
-ghost use Rattle.descriptor.specs.Answers.{descriptorCheck};
+ghost use Rattle.descriptor.specs.Answers.{descriptorCheck, withTable};
 
 // The first refusal and the zero table; or the row count and the rows, in order of first byte.
 pub fn check_descriptor(d: &[u8]) -> Checked
-    ensures { λ r. ⌜ r ≡ descriptorCheck (now (d .entry)) ⌝ }
+    ensures { λ r. ⌜ r ≡ withTable (descriptorCheck (now (d .entry))) ⌝ }
 {
     let v = validate(d);
     if !v.ok {
@@ -20,6 +20,6 @@ pub fn check_descriptor(d: &[u8]) -> Checked
         };
     }
     let rows = tabulate(d);
-    let answer = answered(0, 0, v.count);
+    let answer = answered(0, 0, v.value);
     Checked { answer, rows }
 }

@@ -1,74 +1,59 @@
-// A descriptor's two words: the one reader of size and code.
+// A descriptor's two words: the one reader of size and code, and where the parts of a descriptor stand.
+use super::codes::is_array;
+use super::codes::is_carried;
+use super::limits::HIGH_BIT;
 use super::limits::ROW_LIMIT;
 use number::endian::be16;
 ghost use mathlib.Core.Path.{_≡_};
-ghost use Prim.Native.Nat.{_+_, _≤_};
-ghost use lib.ListN.{length, getD};
-ghost use Rattle.number.specs.Endian.{be};
-ghost use Rattle.number.specs.Post.{Bounded};
-ghost use Rattle.descriptor.specs.Codes.{kindOf};
-ghost use Rattle.descriptor.specs.Steps.{refusedHead, kindNumber};
-ghost use Rattle.descriptor.specs.Promises.{Within, HeadMet};
+ghost use Prim.Native.Nat.{_+_, _≤_, _<_};
+ghost use lib.ListN.{length};
+ghost use Rattle.number.specs.inner.Post.{Bounded};
+ghost use Rattle.descriptor.specs.Header.{headerSize, reservedAt, codeAt, bodyAt, sizeIn, codeIn};
+ghost use Rattle.descriptor.specs.Places.{codePlace, contentsPlace};
+ghost use Rattle.descriptor.specs.inner.Steps.{refusedHead};
+ghost use Rattle.descriptor.specs.inner.Promises.{Within, HeadMet, addressable};
 
-// Where not `ok`, the refusal's number and place. Else the descriptor's size and low code byte.
+// The bytes of the two words.
+const HEADER_SIZE: usize = 4;
+
+// Where not `ok`, the refusal's number and place. Else the descriptor's size, where its body starts, and its low code byte.
 pub struct Head {
     pub ok: bool,
     pub number: u32,
     pub place: usize,
     pub size: usize,
+    pub body: usize,
     pub code: u8,
 }
 
-// The number of the code's kind: 0 where the code is not carried, then 1 no body, 2 enumeration, 3 physical quantity, 4 string,
-// 5 array, 6 cluster.
-pub fn kind(code: u8) -> u8
-    ensures { λ r. ⌜ r ≡ kindNumber (kindOf code) ⌝ }
+// Where the reserved byte of the descriptor at p stands.
+pub fn reserved_at(p: usize) -> usize
+    requires { ⌜ p < addressable ⌝ }
+    ensures { λ r. ⌜ r ≡ reservedAt p ⌝ }
 {
-    if code < 1 {
-        return 0;
-    }
-    if code < 15 {
-        return 1;
-    }
-    if code < 21 {
-        return 0;
-    }
-    if code < 24 {
-        return 2;
-    }
-    if code < 25 {
-        return 0;
-    }
-    if code < 31 {
-        return 3;
-    }
-    if code == 33 {
-        return 1;
-    }
-    if code == 48 {
-        return 4;
-    }
-    if code == 64 {
-        return 5;
-    }
-    if code == 80 {
-        return 6;
-    }
-    0
+    p + 2
+}
+
+// Where its body starts.
+pub fn body_at(p: usize) -> usize
+    requires { ⌜ p < addressable ⌝ }
+    ensures { λ r. ⌜ r ≡ bodyAt p ⌝ }
+{
+    p + HEADER_SIZE
 }
 
 // The size word of the descriptor at p.
 pub fn size_at(d: &[u8], p: usize) -> usize
-    requires { ⌜ p + 2 ≤ length (now d) ⌝ }
-    ensures { λ r. ⌜ Bounded r (be (now (d .entry)) p 2) 65536 ⌝ }
+    requires { ⌜ bodyAt p ≤ length (now d) ⌝ }
+    ensures { λ r. ⌜ Bounded r (sizeIn (now (d .entry)) p) 65536 ⌝ }
 {
     be16(d, p)
 }
 
-// The low code byte of the descriptor at p.
+// Its low code byte.
 pub fn code_at(d: &[u8], p: usize) -> u8
-    requires { ⌜ p + 4 ≤ length (now d) ⌝ }
-    ensures { λ r. ⌜ r ≡ getD (now (d .entry)) (p + 3) 0 ⌝ }
+    requires { ⌜ bodyAt p ≤ length (now d) ⌝ }
+    ensures { λ r. ⌜ r ≡ codeIn (now (d .entry)) p ⌝ }
 {
     d[p + 3]
 }
@@ -81,8 +66,23 @@ fn refuse_head(number: u32, place: usize) -> Head
         number,
         place,
         size: 0,
+        body: 0,
         code: 0,
     }
+}
+
+// 5: the code of the descriptor at p is not carried.
+fn bad_code(p: usize) -> Head
+    ensures { λ r. ⌜ r ≡ refusedHead 5 (codePlace p) ⌝ }
+{
+    refuse_head(5, p)
+}
+
+// 10: the descriptor at p is an array in an array.
+fn nested_array(p: usize) -> Head
+    ensures { λ r. ⌜ r ≡ refusedHead 10 (contentsPlace p (codeAt p)) ⌝ }
+{
+    refuse_head(10, p)
 }
 
 // The header of the descriptor at p, whose parent ends at `end`, with `levels` left of the depth and n rows before it.
@@ -90,25 +90,25 @@ pub fn header(d: &[u8], levels: usize, in_array: bool, end: usize, p: usize, n: 
     requires { ⌜ Within (now d) p end ⌝ }
     ensures { λ r. ⌜ HeadMet (now (d .entry)) levels in_array end p n r ⌝ }
 {
-    if end - p < 4 {
+    if end - p < HEADER_SIZE {
         return refuse_head(2, p);
     }
     let size = size_at(d, p);
-    if 32768 <= size {
+    if HIGH_BIT <= size {
         return refuse_head(3, p);
     }
     if size % 2 != 0 {
         return refuse_head(4, p);
     }
-    if size < 4 {
+    if size < HEADER_SIZE {
         return refuse_head(4, p);
     }
     if end - p < size {
         return refuse_head(4, p);
     }
     let code = code_at(d, p);
-    if kind(code) == 0 {
-        return refuse_head(5, p);
+    if !is_carried(code) {
+        return bad_code(p);
     }
     if levels == 0 {
         return refuse_head(6, p);
@@ -117,8 +117,8 @@ pub fn header(d: &[u8], levels: usize, in_array: bool, end: usize, p: usize, n: 
         return refuse_head(7, p);
     }
     if in_array {
-        if code == 64 {
-            return refuse_head(10, p);
+        if is_array(code) {
+            return nested_array(p);
         }
     }
     Head {
@@ -126,6 +126,7 @@ pub fn header(d: &[u8], levels: usize, in_array: bool, end: usize, p: usize, n: 
         number: 0,
         place: 0,
         size,
+        body: p + HEADER_SIZE,
         code,
     }
 }

@@ -12,3 +12,6 @@ pub const PAIR_LIMIT: usize = 9;
 pub const BASE_LIMIT: usize = 8;
 
 pub const COUNT_LIMIT: usize = 65535;
+
+// A size word's high bit.
+pub const HIGH_BIT: usize = 0x8000;

@@ -1,15 +1,15 @@
 // A descriptor's name.
 use super::step::Step;
 use super::step::accept;
-use super::step::refuse;
+use super::step::no_name;
 use number::endian::wide;
 ghost use mathlib.Core.Path.{_≡_};
 ghost use Rattle.descriptor.specs.Check.{nameAt};
 ghost use Rattle.descriptor.specs.Table.{nameLength};
-ghost use Rattle.descriptor.specs.Steps.{counted};
-ghost use Rattle.descriptor.specs.Promises.{Within};
+ghost use Rattle.descriptor.specs.inner.Steps.{counted};
+ghost use Rattle.descriptor.specs.inner.Promises.{Within};
 
-// What is left of the descriptor at p from `at` up to `stop`, as a name; what is counted is its length. There is none where `at` is `stop`.
+// What is left of the descriptor at p from `at` up to `stop`, as a name; the value is its length. There is none where `at` is `stop`.
 pub fn name(d: &[u8], p: usize, stop: usize, at: usize) -> Step
     requires { ⌜ Within (now d) at stop ⌝ }
     ensures { λ r. ⌜ r ≡ counted nameLength (nameAt (now (d .entry)) p stop at) ⌝ }
@@ -21,11 +21,11 @@ pub fn name(d: &[u8], p: usize, stop: usize, at: usize) -> Step
     let last = at + 1 + len;
     let odd = (1 + len) % 2;
     if last + odd != stop {
-        return refuse(11, p);
+        return no_name(p, at);
     }
     if odd != 0 {
         if d[last] != 0 {
-            return refuse(11, p);
+            return no_name(p, at);
         }
     }
     accept(stop, len, 0)

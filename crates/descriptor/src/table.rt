@@ -1,13 +1,19 @@
 // The table of an accepted descriptor.
 use super::answer::Row;
-use super::fields::fields;
+use super::codes::Kind;
+use super::codes::kind_of;
+use super::fields::packed_strings;
 use super::header::code_at;
 use super::header::size_at;
+use super::inside::Inside;
+use super::inside::inside_of;
 ghost use mathlib.Core.Path.{_≡_};
 ghost use Prim.Native.Nat.{_+_, _-_};
 ghost use Rattle.descriptor.specs.Limits.{depthLimit};
-ghost use Rattle.descriptor.specs.Table.{zeroRow, zeroRows};
-ghost use Rattle.descriptor.specs.Filling.{RowPre, TablePre, rowRead, emptyTable, noneOpen, filled};
+ghost use Rattle.descriptor.specs.Header.{sizeIn};
+ghost use Rattle.descriptor.specs.Table.{zeroRow};
+ghost use Rattle.descriptor.specs.inner.Standing.{Stands, shapeOf};
+ghost use Rattle.descriptor.specs.inner.Filling.{zeroRows, RowPre, TablePre, rowRead, emptyTable, noneOpen, filled};
 
 fn zero_row() -> Row
     ensures { λ r. ⌜ r ≡ zeroRow ⌝ }
@@ -54,6 +60,33 @@ fn row_at(d: &[u8], depth: usize, p: usize, code: u8, size: usize, count: usize,
         count: count as u16,
         name_place: (at + 1) as u16,
         name_length: d[at] as u16,
+    }
+}
+
+// What stands inside the accepted descriptor at p, which ends at `stop`, with the first byte after its fields: past an enumeration's items
+// and their fill.
+fn shape(d: &[u8], p: usize, stop: usize) -> Inside
+    requires { ⌜ Stands (now d) p ⌝ }
+    requires { ⌜ stop ≡ p + sizeIn (now d) p ⌝ }
+    ensures { λ r. ⌜ r ≡ shapeOf (now (d .entry)) p ⌝ }
+{
+    let b = inside_of(d, p);
+    let k = kind_of(code_at(d, p));
+    match k {
+        Kind::Enumeration => {
+            let w = packed_strings(d, p, stop, b.count, b.at);
+            Inside {
+                at: w.next + (w.next - p) % 2,
+                count: b.count,
+                children: 0,
+            }
+        }
+        Kind::Plain => b,
+        Kind::Quantity => b,
+        Kind::Text => b,
+        Kind::Array => b,
+        Kind::Cluster => b,
+        Kind::Unknown => b,
     }
 }
 
@@ -106,7 +139,7 @@ pub fn tabulate(d: &[u8]) -> [Row; 256]
         } else {
             let size = size_at(d, at);
             let code = code_at(d, at);
-            let b = fields(d, code, at, at + size);
+            let b = shape(d, at, at + size);
             if 0 < b.children {
                 open[level] = Open {
                     n,
@@ -118,10 +151,10 @@ pub fn tabulate(d: &[u8]) -> [Row; 256]
                 };
                 level += 1;
                 n += 1;
-                at = b.next;
+                at = b.at;
                 k = b.children;
             } else {
-                rows[n] = row_at(d, level + 1, at, code, size, b.count, b.next);
+                rows[n] = row_at(d, level + 1, at, code, size, b.count, b.at);
                 n += 1;
                 at += size;
                 k -= 1;

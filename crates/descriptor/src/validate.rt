@@ -1,4 +1,5 @@
 // The check of any bytes as a descriptor, with no table.
+use super::codes::is_array;
 use super::fields::fields;
 use super::header::header;
 use super::limits::DEPTH_LIMIT;
@@ -11,11 +12,11 @@ ghost use mathlib.Core.Path.{_≡_};
 ghost use Prim.Native.Nat.{_+_};
 ghost use Rattle.descriptor.specs.Tree.{rowCount};
 ghost use Rattle.descriptor.specs.Check.{checked};
-ghost use Rattle.descriptor.specs.Steps.{counted};
-ghost use Rattle.descriptor.specs.Promises.{Within, rowStep};
+ghost use Rattle.descriptor.specs.inner.Steps.{counted};
+ghost use Rattle.descriptor.specs.inner.Promises.{Within, rowStep};
 
 // k descriptors in a row from `start` on, in a parent that ends at `end`, with `levels` left of the depth and n rows before them: where
-// they end and how many rows there are then. It calls itself for a descriptor that has children.
+// they end and, the value, how many rows there are then. It calls itself for a descriptor that has children.
 fn validate_row(
     d: &[u8],
     levels: usize,
@@ -37,19 +38,19 @@ fn validate_row(
             return refuse(h.number, h.place);
         }
         let stop = p + h.size;
-        let b = fields(d, h.code, p, stop);
+        let b = fields(d, h.code, p, h.body, stop);
         if !b.ok {
             return b;
         }
         let mut at = b.next;
         rows += 1;
         if 0 < b.children {
-            let w = validate_row(d, levels - 1, h.code == 64, stop, b.children, at, rows);
+            let w = validate_row(d, levels - 1, is_array(h.code), stop, b.children, at, rows);
             if !w.ok {
                 return w;
             }
             at = w.next;
-            rows = w.count;
+            rows = w.value;
         }
         let m = name(d, p, stop, at);
         if !m.ok {
@@ -61,7 +62,7 @@ fn validate_row(
     accept(p, rows, 0)
 }
 
-// The first refusal of d as a descriptor; where there is none, how many rows it has.
+// The first refusal of d as a descriptor; where there is none, the value is how many rows it has.
 pub fn validate(d: &[u8]) -> Step
     ensures { λ r. ⌜ r ≡ counted rowCount (checked (now (d .entry))) ⌝ }
 {

@@ -17,7 +17,8 @@ use Rattle.descriptor.specs.Check.{treeAt, checked}
 use Rattle.descriptor.proofs.Outcomes.{Holds, found, holds-read, holds-require, holds-andThen}
 use Rattle.encoding.proofs.Slices.{slice-all}
 use Rattle.encoding.proofs.Lengths.{tree-length}
-use Rattle.encoding.proofs.Sound.{reservedIn, tree-sound}
+use Rattle.descriptor.specs.Header.{reservedIn}
+use Rattle.encoding.proofs.Sound.{tree-sound}
 use Rattle.encoding.proofs.Complete.{pass, onward, tree-complete}
 
 -- an accepted descriptor spells its tree, which is within the limits

@@ -5,7 +5,7 @@ use Prim.Native.Nat.{ℕ, suc, _+_, _*_, _%_, _<_}
 use native.Mathlib.Omega.{arith}
 use lib.ListN.{length, replicate}
 use Rattle.descriptor.specs.Codes.{Kind, kindOf, isArray}
-use Rattle.descriptor.specs.Tree.{Name, unnamed, named, Pair, Fields, empty, items, pairs, text, dimensions, members, Tree, node, Forest, nil, cons, itemsSize, fieldsSize, treeSize}
+use Rattle.descriptor.specs.Tree.{Name, unnamed, named, Pair, Fields, empty, items, pairs, text, dimensions, members, Tree, node, Forest, nil, cons, itemsSize, insideAt, treeSize}
 use Rattle.descriptor.specs.Encoding.{word, packed, pairBytes, fill, fieldBytes, nameBytes, encodeWith, forestWith, encode, Bytes, AllChars, NameFits, FieldsFit, WellFormed, AllWellFormed, WithinLimits}
 use Rattle.encoding.proofs.Slices.{bytes-append, bytes-replicate, bytes-beBytes}
 
@@ -49,13 +49,13 @@ module _ (r : ℕ → ℕ) (reserved : (k : ℕ) → r k < 256) where
     -- a tree's encoding is bytes where its reserved bytes are
     pub tree-bytes : (t : Tree) (a : Bool) (p : ℕ) → WellFormed a t → Bytes (encodeWith r p t)
     tree-bytes (node c b f m) a p h =
-        bytes-append (word (treeSize (node c b f m))) (r p ∷ c ∷ (fieldBytes b ++ (forestWith r (p + 4 + fieldsSize b) f ++ nameBytes m)))
+        bytes-append (word (treeSize (node c b f m))) (r p ∷ c ∷ (fieldBytes b ++ (forestWith r (insideAt p b) f ++ nameBytes m)))
         (bytes-beBytes 2 (treeSize (node c b f m))) (
           reserved p,
           (
             h .code,
-            bytes-append (fieldBytes b) (forestWith r (p + 4 + fieldsSize b) f ++ nameBytes m) (fields-bytes (kindOf c) b (h .fields))
-                (bytes-append (forestWith r (p + 4 + fieldsSize b) f) (nameBytes m) (forest-bytes f (isArray (kindOf c)) (p + 4 + fieldsSize b) (h .inside))
+            bytes-append (fieldBytes b) (forestWith r (insideAt p b) f ++ nameBytes m) (fields-bytes (kindOf c) b (h .fields))
+                (bytes-append (forestWith r (insideAt p b) f) (nameBytes m) (forest-bytes f (isArray (kindOf c)) (insideAt p b) (h .inside))
                 (name-bytes m (h .name))),
           ),
         )

@@ -11,13 +11,16 @@ use lib.ListN.{length, getD, replicate, replicate-append-replicate}
 use lib.Seq.{slice}
 use Rattle.number.specs.Endian.{be, beBytes}
 use Rattle.number.proofs.Writing.{length-beBytes}
-use Rattle.descriptor.specs.Limits.{rowLimit, dimensionLimit, pairLimit, countLimit}
+use Rattle.descriptor.specs.Limits.{rowLimit, dimensionLimit, pairLimit, countLimit, highBit, fixedWord}
 use Rattle.descriptor.specs.Codes.{Kind, kindOf, isCarried, isArray}
-use Rattle.descriptor.specs.Tree.{Name, unnamed, named, Pair, Fields, empty, items, pairs, text, dimensions, members, Tree, node, Forest, nil, cons, childCount, itemsSize, fieldsSize, nameSize, treeSize, forestSize, forestLength, rowCount, forestRows, height, forestHeight}
+use Rattle.descriptor.specs.Header.{headerSize, reservedAt, codeAt, bodyAt, sizeIn, codeIn}
+use Rattle.descriptor.specs.Tree.{Name, unnamed, named, Pair, Fields, empty, items, pairs, text, dimensions, members, Tree, node, Forest, nil, cons, childCount, insideAt, itemsSize, fieldsSize, nameSize, treeSize, forestSize, forestLength, rowCount, forestRows, height, forestHeight}
 use Rattle.descriptor.specs.Encoding.{word, pascal, packed, pairBytes, fill, fieldBytes, nameBytes, encodeWith, forestWith, AllPairs, Counted, FieldsFit, WellFormed, AllWellFormed}
 use Rattle.descriptor.specs.Outcome.{Outcome, read, andThen, require}
-use Rattle.descriptor.specs.Check.{headerAt, countAt, itemAt, itemsAt, fillAt, pairsAt, basesFit, wordsFit, fieldsAt, membersAt, nameAt, nodeAt, treeAt}
+use Rattle.descriptor.specs.Places.{overrunPlace, contentsPlace}
+use Rattle.descriptor.specs.Check.{headerAt, countAt, runAt, itemAt, itemsAt, pairsAt, judged, baseFits, wordFits, fillAt, fieldsAt, membersAt, nameAt, nodeAt, treeAt}
 use Rattle.descriptor.proofs.Sizes.{both-true}
+use Rattle.descriptor.proofs.FieldKinds.{plain-fields, enumeration-fields, quantity-fields, string-fields, array-fields, cluster-fields}
 use Rattle.encoding.proofs.Slices.{slice-split, slice-first, slice-be}
 use Rattle.encoding.proofs.Lengths.{fill-odd, packed-length, fields-length, forest-length, tree-length, tree-even}
 
@@ -47,48 +50,44 @@ carried k text e = ap isCarried e
 carried k (dimensions d) e = ap isCarried (e .0)
 carried k (members j) e = ap isCarried (e .0)
 
--- each base is within its limit
-bases-fit : (ps : List Pair) → AllPairs ps → basesFit ps ≡ true
-unfolding basesFit AllPairs
-bases-fit [] h = refl
-bases-fit (x ∷ ps) h = both-true (le-leb _ _ (h .0 .0)) (bases-fit ps (h .1))
-
 module _ (s : List ℕ) where
   -- a word
-  word-read : (p q v : ℕ) → q ≡ p + 2 → v < 65536 → slice p q s ≡ word v → be s p 2 ≡ v
+  pub word-read : (p q v : ℕ) → q ≡ p + 2 → v < 65536 → slice p q s ≡ word v → be s p 2 ≡ v
   word-read p q v at h e =
       let r : be s p 2 ≡ v % 65536 = slice-be s p 2 v (ap (λ (k : ℕ). slice p k s) (sym at) ∙ e) in
       omega arith
 
   -- the header of a descriptor of that size and code
-  header-complete : (levels : ℕ) (a : Bool) (end p n size c : ℕ) → be s p 2 ≡ size → getD s (p + 3) 0 ≡ c → p + size ≤ end → size % 2 ≡ 0
-      → 4 ≤ size → size < 32768 → isCarried (kindOf c) ≡ true → 0 < levels → n < rowLimit → (a && isArray (kindOf c)) ≡ false
-      → headerAt s levels a end p n ≡ read (p + 4) (record { size = size; code = c })
+  pub header-complete : (levels : ℕ) (a : Bool) (end p n size c : ℕ) → sizeIn s p ≡ size → codeIn s p ≡ c → p + size ≤ end → size % 2 ≡ 0
+      → headerSize ≤ size → size < highBit → isCarried (kindOf c) ≡ true → 0 < levels → n < rowLimit → (a && isArray (kindOf c)) ≡ false
+      → headerAt s levels a end p n ≡ read (bodyAt p) (record { size = size; code = c })
   unfolding headerAt
   header-complete levels a end p n size c es ec room even least small known depth rows element =
-      pass _ _ (le-leb 4 (end - p) (omega arith))
-      (pass _ _ (lt-ltb (be s p 2) 32768 (omega arith))
-      (pass _ _ (both-true (eq-eqb (be s p 2 % 2) 0 (omega arith)) (both-true (le-leb 4 (be s p 2) (omega arith)) (le-leb (be s p 2) (end - p) (omega arith))))
+      pass _ _ (le-leb headerSize (end - p) (omega arith))
+      (pass _ _ (lt-ltb (sizeIn s p) highBit (omega arith))
+      (pass _ _ (both-true (eq-eqb (sizeIn s p % 2) 0 (omega arith)) (both-true (le-leb headerSize (sizeIn s p) (omega arith)) (le-leb (sizeIn s p) (end - p) (omega arith))))
       (pass _ _ (ap (λ (k : ℕ). isCarried (kindOf k)) ec ∙ known)
       (pass _ _ (lt-ltb 0 levels depth)
       (pass _ _ (lt-ltb n rowLimit rows)
       (pass _ _ (ap (λ (k : ℕ). not (a && isArray (kindOf k))) ec ∙ ap not element)
-      (λ j. read (p + 4) (record { size = es j; code = ec j }))))))))
+      (λ j. read (bodyAt p) (record { size = es j; code = ec j }))))))))
 
-  -- FFFFFFFF, k times
-  words-complete : (k p : ℕ) → p + 4 * k ≤ length s → slice p (p + 4 * k) s ≡ replicate (4 * k) 255 → wordsFit s k p ≡ true
-  unfolding wordsFit beBytes
-  words-complete zero p h e = refl
-  words-complete (suc k) p h e =
+  -- FFFFFFFF, k times, judged for the descriptor that starts at `start`
+  pub words-complete : (start k p : ℕ) → p + 4 * k ≤ length s → slice p (p + 4 * k) s ≡ replicate (4 * k) 255
+      → judged (wordFits s) start k p ≡ read (p + 4 * k) tt
+  unfolding judged beBytes
+  words-complete start zero p h e = ap (λ (q : ℕ). read q tt) (let z : p ≡ p + 4 * 0 = omega arith in z)
+  words-complete start (suc k) p h e =
       let last : p + 4 + 4 * k ≡ p + 4 * suc k = omega arith in
       let size : 4 * suc k ≡ 4 + 4 * k = omega arith in
       let whole : slice p (p + 4 + 4 * k) s ≡ replicate 4 255 ++ replicate (4 * k) 255 =
       ap (λ (q : ℕ). slice p q s) last ∙ e ∙ ap (λ (n : ℕ). replicate n 255) size ∙ sym (replicate-append-replicate 4 (4 * k) 255) in
       let parts = slice-split (replicate 4 255) (replicate (4 * k) 255) p (p + 4) (p + 4 + 4 * k) s refl (omega arith) (omega arith) whole in
-      both-true (eq-eqb (be s p 4) 4294967295 (slice-be s p 4 4294967295 (parts .0))) (words-complete k (p + 4) (omega arith) (parts .1))
+      pass _ _ (eq-eqb (be s p 4) fixedWord (slice-be s p 4 fixedWord (parts .0)))
+      (words-complete start k (p + 4) (omega arith) (parts .1) ∙ ap (λ (q : ℕ). read q tt) last)
 
   -- unit pairs
-  pairs-complete : (ps : List Pair) (p : ℕ) → AllPairs ps → p + 4 * length ps ≤ length s → slice p (p + 4 * length ps) s ≡ pairBytes ps
+  pub pairs-complete : (ps : List Pair) (p : ℕ) → AllPairs ps → p + 4 * length ps ≤ length s → slice p (p + 4 * length ps) s ≡ pairBytes ps
       → pairsAt s (length ps) p ≡ ps
   unfolding pairBytes pairsAt AllPairs
   pairs-complete [] p fit h e = refl
@@ -103,19 +102,45 @@ module _ (s : List ℕ) where
       let rest = pairs-complete ps (p + 4) (fit .1) (omega arith) (v .1) in
       (λ j. record { base = eb j; exponent = ee j } ∷ rest j)
 
+  -- whose bases are within their limit
+  pub bases-complete : (start : ℕ) (ps : List Pair) (p : ℕ) → AllPairs ps → pairsAt s (length ps) p ≡ ps
+      → judged (baseFits s) start (length ps) p ≡ read (p + 4 * length ps) tt
+  unfolding judged pairsAt AllPairs
+  bases-complete start [] p fit e = ap (λ (q : ℕ). read q tt) (let z : p ≡ p + 4 * 0 = omega arith in z)
+  bases-complete start (x ∷ ps) p fit e =
+      let base : be s p 2 ≡ x .base = ap (λ (l : List Pair). first-base l) e in
+      let rest : pairsAt s (length ps) (p + 4) ≡ ps = ap (λ (l : List Pair). others l) e in
+      pass _ _ (le-leb (be s p 2) _ (omega (arith, fit .0 .0)))
+      (bases-complete start ps (p + 4) (fit .1) rest ∙ ap (λ (q : ℕ). read q tt) (let z : p + 4 + 4 * length ps ≡ p + 4 * suc (length ps) = omega arith in z))
+    where
+      first-base : List Pair → ℕ
+      first-base [] = 0
+      first-base (y ∷ ys) = y .base
+
+      others : List Pair → List Pair
+      others [] = []
+      others (y ∷ ys) = ys
+
   -- the parts of the descriptor at p that ends at `stop`
   module _ (p stop : ℕ) (inside : stop ≤ length s) where
     -- a count
-    count-complete : (most k : ℕ) → p + 6 ≤ stop → slice (p + 4) (p + 6) s ≡ word k → Counted k most → most < 65536
-        → countAt s p stop most ≡ read (p + 6) k
+    pub count-complete : (at most k : ℕ) → at + 2 ≤ stop → slice at (at + 2) s ≡ word k → Counted k most → most < 65536
+        → countAt s p at stop most ≡ read (at + 2) k
     unfolding countAt
-    count-complete most k room e c small =
-        let w : be s (p + 4) 2 ≡ k = word-read (p + 4) (p + 6) k (omega arith) (omega (arith, c .within)) e in
-        pass _ _ (le-leb (p + 6) stop room)
-        (pass _ _ (both-true (le-leb 1 (be s (p + 4) 2) (omega (arith, c .least))) (le-leb (be s (p + 4) 2) most (omega (arith, c .within)))) (ap (read (p + 6)) w))
+    count-complete at most k room e c small =
+        let w : be s at 2 ≡ k = word-read at (at + 2) k refl (omega (arith, c .within)) e in
+        pass _ _ (le-leb (at + 2) stop room)
+        (pass _ _ (both-true (le-leb 1 (be s at 2) (omega (arith, c .least))) (le-leb (be s at 2) most (omega (arith, c .within)))) (ap (read (at + 2)) w))
+
+    -- a count with its words
+    pub run-complete : (at most k : ℕ) → at + 2 + 4 * k ≤ stop → slice at (at + 2) s ≡ word k → Counted k most → most < 65536
+        → runAt s p at stop most ≡ read (at + 2 + 4 * k) k
+    unfolding runAt
+    run-complete at most k room e c small =
+        onward _ (count-complete at most k (omega arith) e c small) (pass _ _ (le-leb (at + 2 + 4 * k) stop room) refl)
 
     -- a Pascal string
-    item-complete : (at : ℕ) (x : List ℕ) → at + suc (length x) ≤ stop → slice at (at + suc (length x)) s ≡ pascal x
+    pub item-complete : (at : ℕ) (x : List ℕ) → at + suc (length x) ≤ stop → slice at (at + suc (length x)) s ≡ pascal x
         → itemAt s p stop at ≡ read (at + suc (length x)) x
     unfolding itemAt
     item-complete at x room e =
@@ -125,7 +150,7 @@ module _ (s : List ℕ) where
         (pass _ _ (le-leb (at + 1 + getD s at 0) stop (omega arith)) (ap₂ read q (ap (λ (j : ℕ). slice (at + 1) j s) q ∙ f .1)))
 
     -- packed Pascal strings
-    items-complete : (xs : List (List ℕ)) (at : ℕ) → at + itemsSize xs ≤ stop → slice at (at + itemsSize xs) s ≡ packed xs
+    pub items-complete : (xs : List (List ℕ)) (at : ℕ) → at + itemsSize xs ≤ stop → slice at (at + itemsSize xs) s ≡ packed xs
         → itemsAt s p stop (length xs) at ≡ read (at + itemsSize xs) xs
     unfolding itemsAt itemsSize packed
     items-complete [] at room e = ap (λ (q : ℕ). read q []) (let z : at ≡ at + 0 = omega arith in z)
@@ -136,67 +161,69 @@ module _ (s : List ℕ) where
         onward _ (item-complete at x (omega arith) (parts .0))
         (onward _ (items-complete xs (at + suc (length x)) (omega arith) (parts .1)) (ap (λ (q : ℕ). read q (x ∷ xs)) last))
 
-    -- the zero byte after items that end at `at`
-    fill-complete : (at q : ℕ) (xs : List (List ℕ)) → at ≡ p + 6 + itemsSize xs → q ≡ at + itemsSize xs % 2 → q ≤ stop
-        → slice at q s ≡ fill (itemsSize xs) → fillAt s p stop at xs ≡ read q (items xs)
+    -- the zero byte after n bytes from the body's third on, which end at `at`
+    pub fill-complete : (at q n : ℕ) → at ≡ bodyAt p + 2 + n → q ≡ at + n % 2 → q ≤ stop → slice at q s ≡ fill n → fillAt s p stop at ≡ read q tt
     unfolding fillAt
-    fill-complete at q xs start last room e = go (eqb ((at - p) % 2) 0) refl
+    fill-complete at q n start last room e = go (eqb ((at - p) % 2) 0) refl
       where
         go : (even : Bool) → eqb ((at - p) % 2) 0 ≡ even
-            → cond even (read at (items xs)) (require (ltb at stop) 8 p (require (eqb (getD s at 0) 0) 10 p (read (at + 1) (items xs)))) ≡ read q (items xs)
-        go true t = ap (λ (j : ℕ). read j (items xs)) (let z : at ≡ q = omega (arith, eqb-true) in z)
+            → _≡_ {A = Outcome (Unit {0})}
+            (cond even (read at tt) (require (ltb at stop) 8 (overrunPlace p stop) (require (eqb (getD s at 0) 0) 10 (contentsPlace p at) (read (at + 1) tt))))
+            (read q tt)
+        go true t = ap (λ (j : ℕ). read j tt) (let z : at ≡ q = omega (arith, eqb-true) in z)
         go false t =
-            let odd : itemsSize xs % 2 ≡ 1 = omega (arith, eqb-false) in
-            let f = slice-first 0 [] at (at + 1) q s 0 refl (omega arith) (omega arith) (e ∙ fill-odd (itemsSize xs) odd) in
+            let odd : n % 2 ≡ 1 = omega (arith, eqb-false) in
+            let f = slice-first 0 [] at (at + 1) q s 0 refl (omega arith) (omega arith) (e ∙ fill-odd n odd) in
             pass _ _ (lt-ltb at stop (omega arith))
-            (pass _ _ (eq-eqb (getD s at 0) 0 (f .0)) (ap (λ (j : ℕ). read j (items xs)) (let z : at + 1 ≡ q = omega arith in z)))
+            (pass _ _ (eq-eqb (getD s at 0) 0 (f .0)) (ap (λ (j : ℕ). read j tt) (let z : at + 1 ≡ q = omega arith in z)))
 
-    -- the fields of a body
-    fields-complete : (k : Kind) (b : Fields) → FieldsFit k b → p + 4 + fieldsSize b ≤ stop → slice (p + 4) (p + 4 + fieldsSize b) s ≡ fieldBytes b
-        → fieldsAt k s p stop ≡ read (p + 4 + fieldsSize b) b
-    unfolding FieldsFit fieldsSize fieldBytes fieldsAt
+    -- the fields of the body
+    pub fields-complete : (k : Kind) (b : Fields) → FieldsFit k b → insideAt p b ≤ stop → slice (bodyAt p) (insideAt p b) s ≡ fieldBytes b
+        → fieldsAt k s p (bodyAt p) stop ≡ read (insideAt p b) b
+    unfolding FieldsFit fieldsSize fieldBytes
     fields-complete k empty fit room e =
-        ap (λ (j : Kind). fieldsAt j s p stop) fit ∙ ap (λ (q : ℕ). read q empty) (let z : p + 4 ≡ p + 4 + 0 = omega arith in z)
+        ap (λ (j : Kind). fieldsAt j s p (bodyAt p) stop) fit ∙ plain-fields s p (bodyAt p) stop
+        ∙ ap (λ (q : ℕ). read q empty) (let z : bodyAt p ≡ bodyAt p + 0 = omega arith in z)
     fields-complete k (items xs) fit room e =
-        let last : ℕ = p + 4 + (2 + (itemsSize xs + itemsSize xs % 2)) in
-        let next : ℕ = p + 6 + itemsSize xs in
-        let w = slice-split (word (length xs)) (packed xs ++ fill (itemsSize xs)) (p + 4) (p + 6) last s
+        let at : ℕ = bodyAt p in
+        let last : ℕ = at + (2 + (itemsSize xs + itemsSize xs % 2)) in
+        let next : ℕ = at + 2 + itemsSize xs in
+        let w = slice-split (word (length xs)) (packed xs ++ fill (itemsSize xs)) at (at + 2) last s
         (omega (arith, length-beBytes 2 (length xs))) (omega arith) (omega arith) e in
-        let v = slice-split (packed xs) (fill (itemsSize xs)) (p + 6) next last s (omega (arith, packed-length xs)) (omega arith) (omega arith) (w .1) in
-        ap (λ (j : Kind). fieldsAt j s p stop) (fit .0)
-        ∙ onward _ (count-complete countLimit (length xs) (omega arith) (w .0) (fit .1 .0) (omega arith))
-        (onward _ (items-complete xs (p + 6) (omega arith) (v .0)) (fill-complete next last xs refl (omega arith) room (v .1)))
+        let v = slice-split (packed xs) (fill (itemsSize xs)) (at + 2) next last s (omega (arith, packed-length xs)) (omega arith) (omega arith) (w .1) in
+        ap (λ (j : Kind). fieldsAt j s p at stop) (fit .0) ∙ enumeration-fields s p at stop
+        ∙ onward _ (count-complete at countLimit (length xs) (omega arith) (w .0) (fit .1 .0) (omega arith))
+        (onward _ (items-complete xs (at + 2) (omega arith) (v .0)) (onward _ (fill-complete next last (itemsSize xs) refl (omega arith) room (v .1)) refl))
     fields-complete k (pairs ps) fit room e =
-        let last : p + 4 + (2 + 4 * length ps) ≡ p + 6 + 4 * length ps = omega arith in
-        let w = slice-split (word (length ps)) (pairBytes ps) (p + 4) (p + 6) (p + 6 + 4 * length ps) s
-        (omega (arith, length-beBytes 2 (length ps))) (omega arith) (omega arith) (ap (λ (q : ℕ). slice (p + 4) q s) (sym last) ∙ e) in
-        let same : pairsAt s (length ps) (p + 6) ≡ ps = pairs-complete ps (p + 6) (fit .1 .1) (omega arith) (w .1) in
-        ap (λ (j : Kind). fieldsAt j s p stop) (fit .0)
-        ∙ onward _ (count-complete pairLimit (length ps) (omega arith) (w .0) (fit .1 .0) (omega arith))
-        (pass _ _ (le-leb (p + 6 + 4 * length ps) stop (omega arith))
-        (pass _ _ (ap basesFit same ∙ bases-fit ps (fit .1 .1)) (ap₂ (λ (q : ℕ) (xs : List Pair). read q (pairs xs)) (sym last) same)))
+        let at : ℕ = bodyAt p in
+        let last : at + (2 + 4 * length ps) ≡ at + 2 + 4 * length ps = omega arith in
+        let w = slice-split (word (length ps)) (pairBytes ps) at (at + 2) (at + 2 + 4 * length ps) s
+        (omega (arith, length-beBytes 2 (length ps))) (omega arith) (omega arith) (ap (λ (q : ℕ). slice at q s) (sym last) ∙ e) in
+        let same : pairsAt s (length ps) (at + 2) ≡ ps = pairs-complete ps (at + 2) (fit .1 .1) (omega arith) (w .1) in
+        ap (λ (j : Kind). fieldsAt j s p at stop) (fit .0) ∙ quantity-fields s p at stop
+        ∙ onward _ (run-complete at pairLimit (length ps) (omega arith) (w .0) (fit .1 .0) (omega arith))
+        (onward _ (bases-complete p ps (at + 2) (fit .1 .1) same) (ap₂ (λ (q : ℕ) (xs : List Pair). read q (pairs xs)) (sym last) same))
     fields-complete k text fit room e =
-        let last : p + 4 + 4 * 1 ≡ p + 4 + 4 = omega arith in
-        ap (λ (j : Kind). fieldsAt j s p stop) fit
-        ∙ pass _ _ (le-leb (p + 8) stop (omega arith))
-        (pass _ _ (words-complete 1 (p + 4) (omega arith) (ap (λ (q : ℕ). slice (p + 4) q s) last ∙ e))
-        (ap (λ (q : ℕ). read q text) (let z : p + 8 ≡ p + 4 + 4 = omega arith in z)))
+        let at : ℕ = bodyAt p in
+        let last : at + 4 * 1 ≡ at + 4 = omega arith in
+        ap (λ (j : Kind). fieldsAt j s p at stop) fit ∙ string-fields s p at stop
+        ∙ pass _ _ (le-leb (at + 4) stop room)
+        (onward _ (words-complete p 1 at (omega arith) (ap (λ (q : ℕ). slice at q s) last ∙ e)) refl)
     fields-complete k (dimensions d) fit room e =
-        let last : p + 4 + (2 + 4 * d) ≡ p + 6 + 4 * d = omega arith in
-        let w = slice-split (word d) (replicate (4 * d) 255) (p + 4) (p + 6) (p + 6 + 4 * d) s
-        (omega (arith, length-beBytes 2 d)) (omega arith) (omega arith) (ap (λ (q : ℕ). slice (p + 4) q s) (sym last) ∙ e) in
-        ap (λ (j : Kind). fieldsAt j s p stop) (fit .0)
-        ∙ onward _ (count-complete dimensionLimit d (omega arith) (w .0) (fit .1) (omega arith))
-        (pass _ _ (le-leb (p + 6 + 4 * d) stop (omega arith))
-        (pass _ _ (words-complete d (p + 6) (omega arith) (w .1)) (ap (λ (q : ℕ). read q (dimensions d)) (sym last))))
+        let at : ℕ = bodyAt p in
+        let last : at + (2 + 4 * d) ≡ at + 2 + 4 * d = omega arith in
+        let w = slice-split (word d) (replicate (4 * d) 255) at (at + 2) (at + 2 + 4 * d) s
+        (omega (arith, length-beBytes 2 d)) (omega arith) (omega arith) (ap (λ (q : ℕ). slice at q s) (sym last) ∙ e) in
+        ap (λ (j : Kind). fieldsAt j s p at stop) (fit .0) ∙ array-fields s p at stop
+        ∙ onward _ (run-complete at dimensionLimit d (omega arith) (w .0) (fit .1) (omega arith))
+        (onward _ (words-complete p d (at + 2) (omega arith) (w .1)) (ap (λ (q : ℕ). read q (dimensions d)) (sym last)))
     fields-complete k (members j) fit room e =
-        let last : p + 6 ≡ p + 4 + 2 = omega arith in
-        ap (λ (j : Kind). fieldsAt j s p stop) (fit .0)
-        ∙ onward _ (count-complete countLimit j (omega arith) (ap (λ (q : ℕ). slice (p + 4) q s) last ∙ e) (fit .1) (omega arith))
-        (ap (λ (q : ℕ). read q (members j)) last)
+        let at : ℕ = bodyAt p in
+        ap (λ (j : Kind). fieldsAt j s p at stop) (fit .0) ∙ cluster-fields s p at stop
+        ∙ onward _ (count-complete at countLimit j room e (fit .1) (omega arith)) refl
 
     -- a name
-    name-complete : (at : ℕ) (m : Name) → stop ≡ at + nameSize m → slice at stop s ≡ nameBytes m → nameAt s p stop at ≡ read stop m
+    pub name-complete : (at : ℕ) (m : Name) → stop ≡ at + nameSize m → slice at stop s ≡ nameBytes m → nameAt s p stop at ≡ read stop m
     unfolding nameAt nameSize nameBytes
     name-complete at unnamed last e =
         let z : at ≡ stop = omega arith in
@@ -223,14 +250,14 @@ module _ (s : List ℕ) where
   -- a descriptor of these parts and that size, whose children f reads
   node-complete : (f : Bool → ℕ → ℕ → ℕ → Outcome Tree) (r : ℕ → ℕ) (p n size c : ℕ) (b : Fields) (ts : Forest) (m : Name)
       → size ≡ treeSize (node c b ts m) → p + size ≤ length s → FieldsFit (kindOf c) b
-      → slice (p + 4) (p + size) s ≡ fieldBytes b ++ (forestWith r (p + 4 + fieldsSize b) ts ++ nameBytes m)
-      → (slice (p + 4 + fieldsSize b) (p + 4 + fieldsSize b + forestSize ts) s ≡ forestWith r (p + 4 + fieldsSize b) ts
-      → membersAt (f (isArray (kindOf c)) (p + size)) (childCount b) (p + 4 + fieldsSize b) (n + 1) ≡ read (p + 4 + fieldsSize b + forestSize ts) ts)
-      → nodeAt s f p n (record { size = size; code = c }) ≡ read (p + size) (node c b ts m)
+      → slice (bodyAt p) (p + size) s ≡ fieldBytes b ++ (forestWith r (insideAt p b) ts ++ nameBytes m)
+      → (slice (insideAt p b) (insideAt p b + forestSize ts) s ≡ forestWith r (insideAt p b) ts
+      → membersAt (f (isArray (kindOf c)) (p + size)) (childCount b) (insideAt p b) (n + 1) ≡ read (insideAt p b + forestSize ts) ts)
+      → nodeAt s f p n (bodyAt p) (record { size = size; code = c }) ≡ read (p + size) (node c b ts m)
   unfolding nodeAt treeSize
   node-complete f r p n size c b ts m sized inside fit e children =
-      let at : ℕ = p + 4 + fieldsSize b in
-      let v = slice-split (fieldBytes b) (forestWith r at ts ++ nameBytes m) (p + 4) at (p + size) s
+      let at : ℕ = insideAt p b in
+      let v = slice-split (fieldBytes b) (forestWith r at ts ++ nameBytes m) (bodyAt p) at (p + size) s
       (omega (arith, fields-length b)) (omega arith) inside e in
       let w = slice-split (forestWith r at ts) (nameBytes m) at (at + forestSize ts) (p + size) s
       (omega (arith, forest-length ts r at)) (omega arith) inside (v .1) in
@@ -242,28 +269,28 @@ module _ (s : List ℕ) where
     unfolding treeAt membersAt treeSize encodeWith WellFormed rowCount height forestLength
 
     -- the bytes of a tree are read as that tree
-    pub tree-complete : (t : Tree) (levels : ℕ) (a : Bool) (end p n : ℕ) (r : ℕ → ℕ) → end ≤ length s → p + treeSize t ≤ end → treeSize t < 32768
+    pub tree-complete : (t : Tree) (levels : ℕ) (a : Bool) (end p n : ℕ) (r : ℕ → ℕ) → end ≤ length s → p + treeSize t ≤ end → treeSize t < highBit
         → slice p (p + treeSize t) s ≡ encodeWith r p t → WellFormed a t → n + rowCount t ≤ rowLimit → height t ≤ levels
         → treeAt levels s a end p n ≡ read (p + treeSize t) t
     tree-complete (node c b f m) zero a end p n r inside room small e formed rows deep = absurd (omega arith)
     tree-complete (node c b f m) (suc d) a end p n r inside room small e formed rows deep =
-        let size : ℕ = 4 + fieldsSize b + forestSize f + nameSize m in
-        let body : List ℕ = fieldBytes b ++ (forestWith r (p + 4 + fieldsSize b) f ++ nameBytes m) in
-        let w = slice-split (word size) (r p ∷ c ∷ body) p (p + 2) (p + size) s
+        let size : ℕ = headerSize + fieldsSize b + forestSize f + nameSize m in
+        let body : List ℕ = fieldBytes b ++ (forestWith r (insideAt p b) f ++ nameBytes m) in
+        let w = slice-split (word size) (r p ∷ c ∷ body) p (reservedAt p) (p + size) s
         (omega (arith, length-beBytes 2 size)) (omega arith) (omega arith) e in
-        let v = slice-first (r p) (c ∷ body) (p + 2) (p + 3) (p + size) s 0 (omega arith) (omega arith) (omega arith) (w .1) in
-        let u = slice-first c body (p + 3) (p + 4) (p + size) s 0 (omega arith) (omega arith) (omega arith) (v .1) in
+        let v = slice-first (r p) (c ∷ body) (reservedAt p) (codeAt p) (p + size) s 0 (omega arith) (omega arith) (omega arith) (w .1) in
+        let u = slice-first c body (codeAt p) (bodyAt p) (p + size) s 0 (omega arith) (omega arith) (omega arith) (v .1) in
         onward _
-        (header-complete (suc d) a end p n size c (word-read p (p + 2) size refl (omega arith) (w .0)) (u .0) room (tree-even (node c b f m)) (omega arith) small
+        (header-complete (suc d) a end p n size c (word-read p (reservedAt p) size refl (omega arith) (w .0)) (u .0) room (tree-even (node c b f m)) (omega arith) small
         (carried (kindOf c) b (formed .fields)) (omega arith) (omega arith) (formed .element))
         (node-complete (λ a stop q m. treeAt d s a stop q m) r p n size c b f m refl (omega arith) (formed .fields) (u .1)
         (λ i.
-        ap (λ (k : ℕ). membersAt (λ q m. treeAt d s (isArray (kindOf c)) (p + size) q m) k (p + 4 + fieldsSize b) (n + 1)) (sym (formed .children))
-        ∙ forest-complete f d (isArray (kindOf c)) (p + size) (p + 4 + fieldsSize b) (n + 1) r (omega arith) (omega arith) (omega arith) i (formed .inside)
+        ap (λ (k : ℕ). membersAt (λ q m. treeAt d s (isArray (kindOf c)) (p + size) q m) k (insideAt p b) (n + 1)) (sym (formed .children))
+        ∙ forest-complete f d (isArray (kindOf c)) (p + size) (insideAt p b) (n + 1) r (omega arith) (omega arith) (omega arith) i (formed .inside)
         (omega arith) (omega arith)))
 
     -- and so are those of descriptors in a row
-    forest-complete : (f : Forest) (d : ℕ) (a : Bool) (end p n : ℕ) (r : ℕ → ℕ) → end ≤ length s → p + forestSize f ≤ end → forestSize f < 32768
+    forest-complete : (f : Forest) (d : ℕ) (a : Bool) (end p n : ℕ) (r : ℕ → ℕ) → end ≤ length s → p + forestSize f ≤ end → forestSize f < highBit
         → slice p (p + forestSize f) s ≡ forestWith r p f → AllWellFormed a f → n + forestRows f ≤ rowLimit → forestHeight f ≤ d
         → membersAt (λ q m. treeAt d s a end q m) (forestLength f) p n ≡ read (p + forestSize f) f
     forest-complete nil d a end p n r inside room small e formed rows deep = ap (λ (q : ℕ). read q nil) (let z : p ≡ p + 0 = omega arith in z)

@@ -5,7 +5,7 @@ use Prim.Native.Nat.{ℕ, suc, _+_, _*_, _%_}
 use native.Mathlib.Omega.{arith}
 use lib.ListN.{length, replicate, length-append, length-replicate}
 use Rattle.number.specs.Endian.{beBytes}
-use Rattle.descriptor.specs.Tree.{Name, unnamed, named, Pair, Fields, empty, items, pairs, text, dimensions, members, Tree, node, Forest, nil, cons, itemsSize, fieldsSize, nameSize, treeSize, forestSize}
+use Rattle.descriptor.specs.Tree.{Name, unnamed, named, Pair, Fields, empty, items, pairs, text, dimensions, members, Tree, node, Forest, nil, cons, itemsSize, fieldsSize, insideAt, nameSize, treeSize, forestSize}
 use Rattle.descriptor.specs.Encoding.{packed, pairBytes, fill, fieldBytes, nameBytes, encodeWith, forestWith}
 
 -- no byte after an even number of bytes
@@ -53,10 +53,10 @@ mutual
   tree-length (node c b f m) r p =
       omega (
         arith,
-        length-append (fieldBytes b) (forestWith r (p + 4 + fieldsSize b) f ++ nameBytes m),
-        length-append (forestWith r (p + 4 + fieldsSize b) f) (nameBytes m),
+        length-append (fieldBytes b) (forestWith r (insideAt p b) f ++ nameBytes m),
+        length-append (forestWith r (insideAt p b) f) (nameBytes m),
         fields-length b,
-        forest-length f r (p + 4 + fieldsSize b),
+        forest-length f r (insideAt p b),
         name-length m,
       )
 

@@ -12,19 +12,17 @@ use lib.Seq.{slice, slice-empty, length-slice}
 use Rattle.number.specs.Endian.{be, beBytes}
 use Rattle.number.proofs.Reading.{be-bound}
 use Rattle.descriptor.specs.Limits.{rowLimit, dimensionLimit, pairLimit, countLimit}
+use Rattle.descriptor.specs.Header.{bodyAt, reservedAt, codeAt, sizeIn, codeIn, reservedIn}
 use Rattle.descriptor.specs.Codes.{Kind, plain, enumeration, quantity, string, array, cluster, unknown, kindOf, isArray}
-use Rattle.descriptor.specs.Tree.{Tree, Forest, childCount, itemsSize, fieldsSize, nameSize, treeSize, forestSize, forestLength, rowCount, forestRows, height, forestHeight}
+use Rattle.descriptor.specs.Tree.{Tree, Forest, insideAt, childCount, itemsSize, fieldsSize, nameSize, treeSize, forestSize, forestLength, rowCount, forestRows, height, forestHeight}
 use Rattle.descriptor.specs.Encoding.{word, pascal, packed, pairBytes, fill, fieldBytes, nameBytes, encodeWith, forestWith, Bytes, Chars, AllChars, AllPairs, NameFits, Counted, FieldsFit, WellFormed, AllWellFormed}
 use Rattle.descriptor.specs.Outcome.{Outcome, read}
-use Rattle.descriptor.specs.Check.{Header, itemAt, itemsAt, fillAt, pairsAt, basesFit, wordsFit, fieldsAt, membersAt, nameAt, nodeAt, treeAt}
-use Rattle.descriptor.proofs.Outcomes.{Holds, nothing, found, holds-read, holds-require, holds-cond, holds-andThen, holds-both}
-use Rattle.descriptor.proofs.Sizes.{Ends, and-true, HeaderFits, header-fits, CountFits, count-fits, length-pairsAt, item-ends, items-end, fields-end, name-ends}
+use Rattle.descriptor.specs.Check.{Header, itemAt, itemsAt, pairsAt, judged, baseFits, wordFits, fillAt, fieldsAt, membersAt, nameAt, nodeAt, treeAt}
+use Rattle.descriptor.proofs.Outcomes.{Holds, nothing, found, holds-read, holds-require, holds-cond, holds-andThen, holds-both, holds-weaken}
+use Rattle.descriptor.proofs.Sizes.{HeaderFits, header-fits, CountFits, count-fits, run-fits, length-pairsAt, item-ends, items-end, fields-end, name-ends}
+use Rattle.descriptor.proofs.FieldKinds.{plain-fields, enumeration-fields, quantity-fields, string-fields, array-fields, cluster-fields, unknown-fields}
 use Rattle.encoding.proofs.Lengths.{fill-even, fill-odd}
 use Rattle.encoding.proofs.Slices.{slice-then, slice-more, be-slice, bytes-slice, bytes-at}
-
--- the reserved byte of the descriptor at k
-abbrev pub reservedIn : List ℕ → ℕ → ℕ
-reservedIn s k = getD s (k + 2) 0
 
 -- the tree t, read from p to q where n rows went before: `levels` are left of the depth, and its parent ends at `end`
 pub record Sound (s : List ℕ) (levels : ℕ) (inArray : Bool) (end p n q : ℕ) (t : Tree) : Type 0 where
@@ -77,46 +75,47 @@ members-sound s levels a end f sound (suc k) p n h r =
 
 module _ (s : List ℕ) (b : Bytes s) where
   -- the word at p
-  word-spelled : (p q : ℕ) → q ≡ p + 2 → q ≤ length s → slice p q s ≡ word (be s p 2)
+  pub word-spelled : (p q : ℕ) → q ≡ p + 2 → q ≤ length s → slice p q s ≡ word (be s p 2)
   word-spelled p q e h = ap (λ (k : ℕ). slice p k s) e ∙ be-slice s b p 2 (omega arith)
 
   -- one byte
-  byte-spelled : (p x : ℕ) → p < length s → getD s p 0 ≡ x → slice p (p + 1) s ≡ x ∷ []
+  pub byte-spelled : (p x : ℕ) → p < length s → getD s p 0 ≡ x → slice p (p + 1) s ≡ x ∷ []
   byte-spelled p x h e = slice-more p (p + 1) s 0 (omega arith) (omega arith) ∙ ap₂ (λ (y : ℕ) (l : List ℕ). y ∷ l) e (slice-empty (p + 1) s)
 
   -- the Pascal string at p
   module _ (p : ℕ) (h : p + 1 + getD s p 0 ≤ length s) where
     -- its length
-    string-length : length (slice (p + 1) (p + 1 + getD s p 0) s) ≡ getD s p 0
+    pub string-length : length (slice (p + 1) (p + 1 + getD s p 0) s) ≡ getD s p 0
     string-length = omega (arith, length-slice (p + 1) (p + 1 + getD s p 0) s h)
 
     -- its bytes
-    string-spelled : slice p (p + 1 + getD s p 0) s ≡ pascal (slice (p + 1) (p + 1 + getD s p 0) s)
+    pub string-spelled : slice p (p + 1 + getD s p 0) s ≡ pascal (slice (p + 1) (p + 1 + getD s p 0) s)
     string-spelled =
         slice-more p (p + 1 + getD s p 0) s 0 (omega arith) h
         ∙ ap (λ (k : ℕ). k ∷ slice (p + 1) (p + 1 + getD s p 0) s) (sym string-length)
 
     -- its characters
-    string-chars : Chars (slice (p + 1) (p + 1 + getD s p 0) s)
+    pub string-chars : Chars (slice (p + 1) (p + 1 + getD s p 0) s)
     string-chars = record { bytes = bytes-slice (p + 1) (p + 1 + getD s p 0) s b; most = omega (arith, string-length, bytes-at s b p) }
 
-  -- FFFFFFFF, k times
-  words-spelled : (k p : ℕ) → p + 4 * k ≤ length s → wordsFit s k p ≡ true → slice p (p + 4 * k) s ≡ replicate (4 * k) 255
-  unfolding wordsFit beBytes
-  words-spelled zero p h e = ap (λ (q : ℕ). slice p q s) (let z : p + 4 * 0 ≡ p = omega arith in z) ∙ slice-empty p s
-  words-spelled (suc k) p h e =
-      let both = and-true _ _ e in
-      let one : slice p (p + 4) s ≡ replicate 4 255 = be-slice s b p 4 (omega arith) ∙ ap (beBytes 4) (eqb-true _ _ (both .0)) in
-      let more : slice (p + 4) (p + 4 + 4 * k) s ≡ replicate (4 * k) 255 = words-spelled k (p + 4) (omega arith) (both .1) in
+  -- FFFFFFFF, k times, judged for the descriptor that starts at `start`
+  pub words-spelled : (start k p : ℕ) → p + 4 * k ≤ length s
+      → Holds (λ _ _. slice p (p + 4 * k) s ≡ replicate (4 * k) 255) (judged (wordFits s) start k p)
+  unfolding judged beBytes
+  words-spelled start zero p h = found (ap (λ (q : ℕ). slice p q s) (let z : p + 4 * 0 ≡ p = omega arith in z) ∙ slice-empty p s)
+  words-spelled start (suc k) p h =
+      holds-require (wordFits s p) _ _ (λ full.
+      holds-weaken (words-spelled start k (p + 4) (omega arith)) (λ _ _ more.
+      let one : slice p (p + 4) s ≡ replicate 4 255 = be-slice s b p 4 (omega arith) ∙ ap (beBytes 4) (eqb-true _ _ full) in
       let last : p + 4 * suc k ≡ p + 4 + 4 * k = omega arith in
       let size : 4 + 4 * k ≡ 4 * suc k = omega arith in
       ap (λ (q : ℕ). slice p q s) last
       ∙ slice-then p (p + 4) (p + 4 + 4 * k) s (omega arith) (omega arith) one more
       ∙ replicate-append-replicate 4 (4 * k) 255
-      ∙ ap (λ (n : ℕ). replicate n 255) size
+      ∙ ap (λ (n : ℕ). replicate n 255) size))
 
   -- k unit pairs
-  pairs-spelled : (k p : ℕ) → p + 4 * k ≤ length s → slice p (p + 4 * k) s ≡ pairBytes (pairsAt s k p)
+  pub pairs-spelled : (k p : ℕ) → p + 4 * k ≤ length s → slice p (p + 4 * k) s ≡ pairBytes (pairsAt s k p)
   unfolding pairBytes pairsAt
   pairs-spelled zero p h = ap (λ (q : ℕ). slice p q s) (let z : p + 4 * 0 ≡ p = omega arith in z) ∙ slice-empty p s
   pairs-spelled (suc k) p h =
@@ -127,17 +126,17 @@ module _ (s : List ℕ) (b : Bytes s) where
       (pairs-spelled k (p + 4) (omega arith)))
 
   -- and they are within their limits
-  pairs-fit : (k p : ℕ) → basesFit (pairsAt s k p) ≡ true → AllPairs (pairsAt s k p)
-  unfolding basesFit pairsAt AllPairs
-  pairs-fit zero p e = tt
-  pairs-fit (suc k) p e =
-      let both = and-true _ _ e in
-      ((leb-true _ _ (both .0), be-bound s (p + 2) (bytes-at s b) 2), pairs-fit k (p + 4) (both .1))
+  pub pairs-fit : (start k p : ℕ) → Holds (λ _ _. AllPairs (pairsAt s k p)) (judged (baseFits s) start k p)
+  unfolding judged pairsAt AllPairs
+  pairs-fit start zero p = found tt
+  pairs-fit start (suc k) p =
+      holds-require (baseFits s p) _ _ (λ base.
+      holds-weaken (pairs-fit start k (p + 4)) (λ _ _ more. ((leb-true _ _ base, be-bound s (p + 2) (bytes-at s b) 2), more)))
 
   -- the parts of the descriptor at p that ends at `stop`
   module _ (p stop : ℕ) (inside : stop ≤ length s) where
     -- a Pascal string of an enumeration
-    item-sound : (at : ℕ) → Holds (λ q x. (slice at q s ≡ pascal x) × Chars x) (itemAt s p stop at)
+    pub item-sound : (at : ℕ) → Holds (λ q x. (slice at q s ≡ pascal x) × Chars x) (itemAt s p stop at)
     unfolding itemAt
     item-sound at =
         holds-require (ltb at stop) _ _ (λ _.
@@ -146,7 +145,7 @@ module _ (s : List ℕ) (b : Bytes s) where
         found (string-spelled at h, string-chars at h)))
 
     -- k of them
-    items-sound : (k at : ℕ) → at ≤ stop → Holds (λ q xs. (slice at q s ≡ packed xs) × AllChars xs) (itemsAt s p stop k at)
+    pub items-sound : (k at : ℕ) → at ≤ stop → Holds (λ q xs. (slice at q s ≡ packed xs) × AllChars xs) (itemsAt s p stop k at)
     unfolding itemsAt packed AllChars
     items-sound zero at h = found (slice-empty at s, tt)
     items-sound (suc k) at h =
@@ -156,74 +155,74 @@ module _ (s : List ℕ) (b : Bytes s) where
         found
         (slice-then at next last s (omega (arith, i .0 .at)) (omega (arith, r .0 .0 .at)) (i .1 .0) (r .1 .0), (i .1 .1, r .1 .1))))
 
-    -- the items that end at `at`, and the zero byte after them
-    fill-sound : (at : ℕ) (xs : List (List ℕ)) → Ends (p + 6) stop (itemsSize xs) at → slice (p + 6) at s ≡ packed xs
-        → slice (p + 4) (p + 6) s ≡ word (length xs) → Counted (length xs) countLimit → AllChars xs
-        → Holds (λ q f. (slice (p + 4) q s ≡ fieldBytes f) × FieldsFit enumeration f) (fillAt s p stop at xs)
-    unfolding fillAt fieldBytes FieldsFit
-    fill-sound at xs i e w count chars =
+    -- the zero byte after n bytes from `body` on, which end at `at`
+    pub fill-sound : (body at n : ℕ) → body ≡ bodyAt p → at ≡ body + 2 + n → at ≤ stop
+        → Holds (λ q _. (slice at q s ≡ fill n) × (at ≤ q)) (fillAt s p stop at)
+    unfolding fillAt
+    fill-sound body at n start ends within =
         holds-cond (eqb ((at - p) % 2) 0)
         (λ even.
-        let n : itemsSize xs % 2 ≡ 0 = omega (arith, eqb-true) in
-        found (whole at (omega arith) (slice-empty at s ∙ sym (fill-even (itemsSize xs) n)), (refl, (count, chars))))
+        let e : n % 2 ≡ 0 = omega (arith, eqb-true) in
+        found (slice-empty at s ∙ sym (fill-even n e), omega arith))
         (λ odd.
         holds-require (ltb at stop) _ _ (λ room.
         holds-require (eqb (getD s at 0) 0) _ _ (λ z.
-        let n : itemsSize xs % 2 ≡ 1 = omega (arith, eqb-false) in
-        let zero-byte : slice at (at + 1) s ≡ 0 ∷ [] = byte-spelled at 0 (omega (arith, ltb-true)) (eqb-true _ _ z) in
-        found (whole (at + 1) (omega arith) (zero-byte ∙ sym (fill-odd (itemsSize xs) n)), (refl, (count, chars))))))
-      where
-        whole : (q : ℕ) → at ≤ q → slice at q s ≡ fill (itemsSize xs) → slice (p + 4) q s ≡ word (length xs) ++ (packed xs ++ fill (itemsSize xs))
-        whole q h f =
-            slice-then (p + 4) (p + 6) q s (omega arith) (omega (arith, i .at)) w (slice-then (p + 6) at q s (omega (arith, i .at)) h e f)
+        let e : n % 2 ≡ 1 = omega (arith, eqb-false) in
+        found (byte-spelled at 0 (omega (arith, ltb-true)) (eqb-true _ _ z) ∙ sym (fill-odd n e), omega arith))))
 
-    -- a count, which ends at `at`
-    count-spelled : (most at k : ℕ) → CountFits s p stop most at k → slice (p + 4) at s ≡ word k
-    count-spelled most at k c = word-spelled (p + 4) at (omega (arith, c .at)) (omega (arith, c .within)) ∙ ap word (sym (c .word))
+    -- a count at `at`, which ends at q
+    pub count-spelled : (at most q k : ℕ) → CountFits s at stop most q k → slice at q s ≡ word k
+    count-spelled at most q k c = word-spelled at q (c .next) (omega (arith, c .within)) ∙ ap word (sym (c .word))
 
-    -- the fields of a body
-    fields-sound : (k : Kind) → p + 4 ≤ stop → Holds (λ q f. (slice (p + 4) q s ≡ fieldBytes f) × FieldsFit k f) (fieldsAt k s p stop)
-    unfolding fieldsAt fieldBytes FieldsFit
-    fields-sound plain h = found (slice-empty (p + 4) s, refl)
-    fields-sound enumeration h =
-        holds-andThen (count-fits s p stop countLimit) (λ at k c.
-        holds-andThen (holds-both (items-end s p stop inside k at (c .within)) (items-sound k at (c .within))) (λ next xs i.
+    -- the fields of the body that starts at `at`
+    pub fields-sound : (k : Kind) (at : ℕ) → at ≡ bodyAt p → at ≤ stop → Holds (λ q f. (slice at q s ≡ fieldBytes f) × FieldsFit k f) (fieldsAt k s p at stop)
+    unfolding fieldBytes FieldsFit
+    fields-sound plain at start h = rw (plain-fields s p at stop) (found (slice-empty at s, refl))
+    fields-sound enumeration at start h =
+        rw (enumeration-fields s p at stop)
+        (holds-andThen (count-fits s p at stop countLimit) (λ next k c.
+        holds-andThen (holds-both (items-end s p stop inside k next (c .within)) (items-sound k next (c .within))) (λ last xs i.
         let many : k ≡ length xs = sym (i .0 .1) in
-        fill-sound next xs (record { at = omega arith; within = i .0 .0 .within })
-        (ap (λ (j : ℕ). slice j next s) (sym (c .at)) ∙ i .1 .0)
-        (ap (λ (j : ℕ). slice (p + 4) j s) (sym (c .at)) ∙ count-spelled countLimit at k c ∙ ap word many)
-        (record { least = omega arith; within = omega arith }) (i .1 .1)))
-    fields-sound quantity h =
-        holds-andThen (count-fits s p stop pairLimit) (λ at k c.
-        let many : k ≡ length (pairsAt s k at) = sym (length-pairsAt s k at) in
-        holds-require (leb (at + 4 * k) stop) _ _ (λ room.
-        holds-require (basesFit (pairsAt s k at)) _ _ (λ bases.
+        holds-andThen (fill-sound at last (itemsSize xs) start (omega (arith, i .0 .0 .at, c .next)) (i .0 .0 .within)) (λ q _ f.
         found (
-          slice-then (p + 4) at (at + 4 * k) s (omega (arith, c .at)) (omega arith) (count-spelled pairLimit at k c ∙ ap word many)
-              (pairs-spelled k at (omega (arith, leb-true))),
-          (refl, (record { least = omega arith; within = omega arith }, pairs-fit k at bases)),
-        ))))
-    fields-sound string h =
-        holds-require (leb (p + 8) stop) _ _ (λ room.
-        holds-require (wordsFit s 1 (p + 4)) _ _ (λ full.
-        let last : p + 8 ≡ p + 4 + 4 * 1 = omega arith in
-        found (ap (λ (q : ℕ). slice (p + 4) q s) last ∙ words-spelled 1 (p + 4) (omega (arith, leb-true)) full, refl)))
-    fields-sound array h =
-        holds-andThen (count-fits s p stop dimensionLimit) (λ at k c.
-        holds-require (leb (at + 4 * k) stop) _ _ (λ room.
-        holds-require (wordsFit s k at) _ _ (λ full.
+          slice-then at next q s (omega (arith, c .next)) (omega (arith, i .0 .0 .at, f .1)) (count-spelled at countLimit next k c ∙ ap word many)
+              (slice-then next last q s (omega (arith, i .0 .0 .at)) (f .1) (i .1 .0) (f .0)),
+          (refl, (record { least = omega (arith, c .least); within = omega (arith, c .limit) }, i .1 .1)),
+        )))))
+    fields-sound quantity at start h =
+        rw (quantity-fields s p at stop)
+        (holds-andThen (run-fits s p at stop pairLimit) (λ last k r.
+        let many : k ≡ length (pairsAt s k (at + 2)) = sym (length-pairsAt s k (at + 2)) in
+        holds-andThen (pairs-fit p k (at + 2)) (λ _ _ fit.
         found (
-          slice-then (p + 4) at (at + 4 * k) s (omega (arith, c .at)) (omega arith) (count-spelled dimensionLimit at k c)
-              (words-spelled k at (omega (arith, leb-true)) full),
-          (refl, record { least = c .least; within = c .limit }),
+          slice-then at (at + 2) last s (omega arith) (omega (arith, r .next)) (word-spelled at (at + 2) refl (omega (arith, r .next, r .within)) ∙ ap word (sym (r .word) ∙ many))
+              (ap (λ (q : ℕ). slice (at + 2) q s) (r .next) ∙ pairs-spelled k (at + 2) (omega (arith, r .next, r .within))),
+          (refl, (record { least = omega (arith, r .least); within = omega (arith, r .limit) }, fit)),
         ))))
-    fields-sound cluster h =
-        holds-andThen (count-fits s p stop countLimit) (λ at k c.
-        found (count-spelled countLimit at k c, (refl, record { least = c .least; within = c .limit })))
-    fields-sound unknown h = nothing
+    fields-sound string at start h =
+        rw (string-fields s p at stop)
+        (holds-require (leb (at + 4) stop) _ _ (λ room.
+        let in-bytes : at + 4 * 1 ≤ length s = omega (arith, leb-true) in
+        holds-andThen (words-spelled p 1 at in-bytes) (λ _ _ full.
+        let last : at + 4 ≡ at + 4 * 1 = omega arith in
+        found (ap (λ (q : ℕ). slice at q s) last ∙ full, refl))))
+    fields-sound array at start h =
+        rw (array-fields s p at stop)
+        (holds-andThen (run-fits s p at stop dimensionLimit) (λ last k r.
+        holds-andThen (words-spelled p k (at + 2) (omega (arith, r .next, r .within))) (λ _ _ full.
+        found (
+          slice-then at (at + 2) last s (omega arith) (omega (arith, r .next)) (word-spelled at (at + 2) refl (omega (arith, r .next, r .within)) ∙ ap word (sym (r .word)))
+              (ap (λ (q : ℕ). slice (at + 2) q s) (r .next) ∙ full),
+          (refl, record { least = r .least; within = r .limit }),
+        ))))
+    fields-sound cluster at start h =
+        rw (cluster-fields s p at stop)
+        (holds-andThen (count-fits s p at stop countLimit) (λ next k c.
+        found (count-spelled at countLimit next k c, (refl, record { least = c .least; within = c .limit }))))
+    fields-sound unknown at start h = rw (unknown-fields s p at stop) nothing
 
     -- a name
-    name-sound : (at : ℕ) → Holds (λ q m. (slice at q s ≡ nameBytes m) × NameFits m) (nameAt s p stop at)
+    pub name-sound : (at : ℕ) → Holds (λ q m. (slice at q s ≡ nameBytes m) × NameFits m) (nameAt s p stop at)
     unfolding nameAt nameBytes NameFits
     name-sound at =
         holds-cond (eqb at stop) (λ _. found (slice-empty at s, tt))
@@ -252,47 +251,49 @@ module _ (s : List ℕ) (b : Bytes s) where
             ∙ sym (fill-odd _ n)
 
   -- a header and what follows it
-  header-spelled : (p q : ℕ) → p + 4 ≤ q → q ≤ length s
-      → slice p q s ≡ word (be s p 2) ++ (getD s (p + 2) 0 ∷ getD s (p + 3) 0 ∷ slice (p + 4) q s)
+  pub header-spelled : (p q : ℕ) → bodyAt p ≤ q → q ≤ length s
+      → slice p q s ≡ word (sizeIn s p) ++ (reservedIn s p ∷ codeIn s p ∷ slice (bodyAt p) q s)
   header-spelled p q h k =
-      let third : p + 2 + 1 ≡ p + 3 = omega arith in
-      let fourth : p + 3 + 1 ≡ p + 4 = omega arith in
-      slice-then p (p + 2) q s (omega arith) (omega arith) (word-spelled p (p + 2) refl (omega arith))
-      (slice-more (p + 2) q s 0 (omega arith) k
-      ∙ ap (λ (j : ℕ). getD s (p + 2) 0 ∷ slice j q s) third
-      ∙ ap (λ (l : List ℕ). getD s (p + 2) 0 ∷ l)
-      (slice-more (p + 3) q s 0 (omega arith) k ∙ ap (λ (j : ℕ). getD s (p + 3) 0 ∷ slice j q s) fourth))
+      let third : reservedAt p + 1 ≡ codeAt p = omega arith in
+      let fourth : codeAt p + 1 ≡ bodyAt p = omega arith in
+      slice-then p (reservedAt p) q s (omega arith) (omega arith) (word-spelled p (reservedAt p) refl (omega arith))
+      (slice-more (reservedAt p) q s 0 (omega arith) k
+      ∙ ap (λ (j : ℕ). reservedIn s p ∷ slice j q s) third
+      ∙ ap (λ (l : List ℕ). reservedIn s p ∷ l)
+      (slice-more (codeAt p) q s 0 (omega arith) k ∙ ap (λ (j : ℕ). codeIn s p ∷ slice j q s) fourth))
 
   -- a descriptor whose header is read, where f reads its children
   node-sound : (d : ℕ) (f : Bool → ℕ → ℕ → ℕ → Outcome Tree)
       → ((a : Bool) (stop p n : ℕ) → stop ≤ length s → Holds (λ q t. Sound s d a stop p n q t) (f a stop p n))
-      → (a : Bool) (end p n : ℕ) (h : Header) → end ≤ length s → HeaderFits s (suc d) a end p n h
-      → Holds (λ q t. Sound s (suc d) a end p n q t) (nodeAt s f p n h)
+      → (a : Bool) (end p n body : ℕ) (h : Header) → end ≤ length s → HeaderFits s (suc d) a end p n body h
+      → Holds (λ q t. Sound s (suc d) a end p n q t) (nodeAt s f p n body h)
   unfolding nodeAt treeSize encodeWith WellFormed rowCount height
-  node-sound d f sound a end p n h inside fits =
+  node-sound d f sound a end p n body h inside fits =
       let stop : ℕ = p + h .size in
       let fit : stop ≤ length s = omega (arith, fits .within) in
-      let body : p + 4 ≤ stop = omega (arith, fits .least) in
+      let room : body ≤ stop = omega (arith, fits .body, fits .least) in
       let kind : Kind = kindOf (h .code) in
-      holds-andThen (holds-both (fields-end s p stop fit kind body) (fields-sound p stop fit kind body)) (λ at fs i.
+      holds-andThen (holds-both (fields-end s p stop fit kind body (fits .body) room) (fields-sound p stop fit kind body (fits .body) room)) (λ at fs i.
       holds-andThen
       (members-sound s d (isArray kind) stop (f (isArray kind) stop) (λ q m. sound (isArray kind) stop q m fit) (childCount fs) at (n + 1) (i .0 .within)
       (omega (arith, fits .rows))) (λ next ts es.
       holds-andThen (holds-both (name-ends s p stop fit next) (name-sound p stop fit next)) (λ last m e.
-      let ends : last ≡ p + (4 + fieldsSize fs + forestSize ts + nameSize m) = omega (arith, i .0 .at, es .size, e .0 .0) in
-      let sized : be s p 2 ≡ 4 + fieldsSize fs + forestSize ts + nameSize m = omega (arith, e .0 .1, fits .size) in
-      let rest : slice (p + 4) last s ≡ fieldBytes fs ++ (forestWith (reservedIn s) (p + 4 + fieldsSize fs) ts ++ nameBytes m) =
-      slice-then (p + 4) at last s (omega (arith, i .0 .at)) (omega (arith, es .size, e .0 .0)) (i .1 .0)
+      let ends : last ≡ p + (4 + fieldsSize fs + forestSize ts + nameSize m) = omega (arith, i .0 .at, fits .body, es .size, e .0 .0) in
+      let first : at ≡ insideAt p fs = omega (arith, i .0 .at, fits .body) in
+      let sized : sizeIn s p ≡ 4 + fieldsSize fs + forestSize ts + nameSize m = omega (arith, e .0 .1, fits .size) in
+      let rest : slice (bodyAt p) last s ≡ fieldBytes fs ++ (forestWith (reservedIn s) (insideAt p fs) ts ++ nameBytes m) =
+      ap (λ (j : ℕ). slice j last s) (sym (fits .body))
+      ∙ slice-then body at last s (omega (arith, i .0 .at)) (omega (arith, es .size, e .0 .0)) (i .1 .0)
       (slice-then at next last s (omega (arith, es .size)) (omega (arith, e .0 .0))
-      (es .bytes ∙ ap (λ (j : ℕ). forestWith (reservedIn s) j ts) (i .0 .at)) (e .1 .0)) in
+      (es .bytes ∙ ap (λ (j : ℕ). forestWith (reservedIn s) j ts) first) (e .1 .0)) in
       found (record {
         size = ends;
         within = omega (arith, e .0 .1, fits .within);
         bytes =
             header-spelled p last (omega arith) (omega (arith, e .0 .1))
-            ∙ (λ j. word (sized j) ++ (getD s (p + 2) 0 ∷ sym (fits .code) j ∷ rest j));
+            ∙ (λ j. word (sized j) ++ (reservedIn s p ∷ sym (fits .code) j ∷ rest j));
         formed = record {
-          code = rw (fits .code) (bytes-at s b (p + 3));
+          code = rw (fits .code) (bytes-at s b (codeAt p));
           element = fits .element;
           fields = i .1 .1;
           children = es .count;
@@ -308,8 +309,8 @@ module _ (s : List ℕ) (b : Bytes s) where
   unfolding treeAt
   tree-sound zero a end p n inside = holds-andThen (header-fits s zero a end p n) (λ _ h fits. absurd (omega (arith, fits .depth)))
   tree-sound (suc d) a end p n inside =
-      holds-andThen (header-fits s (suc d) a end p n) (λ _ h fits.
-      node-sound d (λ a stop q m. treeAt d s a stop q m) (λ a stop q m i. tree-sound d a stop q m i) a end p n h inside fits)
+      holds-andThen (header-fits s (suc d) a end p n) (λ body h fits.
+      node-sound d (λ a stop q m. treeAt d s a stop q m) (λ a stop q m i. tree-sound d a stop q m i) a end p n body h inside fits)
 
   -- the same of what a reading is known to come to
   pub read-sound : (levels : ℕ) (a : Bool) (end p n q : ℕ) (t : Tree) → end ≤ length s → treeAt levels s a end p n ≡ read q t

@@ -1,4 +1,3 @@
-pub mod Width
 pub mod Order
 pub mod Token
 pub mod Walk

@@ -2,19 +2,16 @@
 -- Every place is "piece start". A byte order is given: the little-endian form is walked "with these words read reversed".
 use mathlib.Core.Bool.{Bool, true, not, _&&_, _||_}
 use mathlib.Core.List.{List, [], _∷_, _++_}
-use Prim.Native.Nat.{ℕ, zero, suc, _+_, _*_, _^_}
+use Prim.Native.Nat.{ℕ, zero, suc, _+_, _*_}
 use lib.ListN.{length, getD}
 use lib.Dec.{leb, ltb, eqb}
 use Rattle.descriptor.specs.Tree.{Fields, empty, items, pairs, text, dimensions, members, Tree, node, Forest, nil, cons}
-use Rattle.descriptor.specs.Limits.{dataLimit}
+use Rattle.descriptor.specs.Limits.{dataLimit, lengthLimit}
+use Rattle.descriptor.specs.Codes.{booleanCode}
 use Rattle.descriptor.specs.Outcome.{Outcome, refused, read, andThen, require}
-use Rattle.flattened.specs.Width.{widthOf}
+use Rattle.descriptor.specs.Width.{widthOf}
 use Rattle.flattened.specs.Order.{Order, numberAt}
 use Rattle.flattened.specs.Token.{TokenKind, scalar, string, sizes, Token}
-
--- "Lengths and sizes are below 2^31."
-abbrev pub lengthLimit : ℕ
-lengthLimit = 2 ^ 31
 
 abbrev pub token : TokenKind → ℕ → ℕ → Token
 token k a b = record { kind = k; start = a; stop = b }
@@ -30,7 +27,7 @@ scalarAt c s at fits number =
 
 -- "A Boolean's byte is 0 for false or 1 for true": 24 for any other byte under code 21; another code's number is as it comes
 unfoldable pub plainAt : ℕ → List ℕ → ℕ → Outcome (List Token)
-plainAt c s at = scalarAt c s at (not (eqb c 33) || leb (getD s at 0) 1) 24
+plainAt c s at = scalarAt c s at (not (eqb c booleanCode) || leb (getD s at 0) 1) 24
 
 -- "A string is a 32-bit length and its characters." 21 for the length word, 22 for the length, 21 for the characters
 unfoldable pub textAt : Order → List ℕ → ℕ → Outcome (List Token)

@@ -1,3 +1,2 @@
 // Flattened data under a type.
 pub mod cursor;
-pub mod width;

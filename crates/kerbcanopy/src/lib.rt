@@ -4,7 +4,7 @@ use canonical::Compared;
 use descriptor::answer::Answer;
 use descriptor::answer::Checked;
 ghost use mathlib.Core.Path.{_≡_};
-ghost use Rattle.descriptor.specs.Answers.{descriptorCheck};
+ghost use Rattle.descriptor.specs.Answers.{descriptorCheck, withTable};
 ghost use Rattle.canonical.specs.Equality.{comparison};
 ghost use Rattle.canonical.specs.Normal.{normalForm};
 
@@ -13,7 +13,7 @@ ghost use Rattle.canonical.specs.Normal.{normalForm};
 // of the descriptor at fault (0 for 1, the top's size for 12), and a table of zero rows.
 #[no_mangle]
 pub extern "C" fn kc_check_descriptor(descriptor: &[u8]) -> Checked
-    ensures { λ r. ⌜ r ≡ descriptorCheck (now (descriptor .entry)) ⌝ }
+    ensures { λ r. ⌜ r ≡ withTable (descriptorCheck (now (descriptor .entry))) ⌝ }
 {
     descriptor::check::check_descriptor(descriptor)
 }

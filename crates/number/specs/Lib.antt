@@ -1,4 +1,4 @@
 pub mod Endian
 pub mod Signed
 pub mod Float
-pub mod Post
+pub mod inner

@@ -4,7 +4,7 @@ ghost use Prim.Native.Nat.{_+_, _^_, _≤_};
 ghost use lib.ListN.{length};
 ghost use lib.Seq.{sets};
 ghost use Rattle.number.specs.Endian.{be, le, beBytes, leBytes};
-ghost use Rattle.number.specs.Post.{Bounded};
+ghost use Rattle.number.specs.inner.Post.{Bounded};
 
 // A byte as a `usize`.
 pub fn wide(x: u8) -> usize

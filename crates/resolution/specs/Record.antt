@@ -3,12 +3,10 @@
 use mathlib.Core.Bool.{Bool, true, false, not, cond}
 use mathlib.Core.List.{List, [], _∷_, _++_}
 use Prim.Native.Nat.{ℕ, _+_}
-use lib.Dec.{eqb}
-use lib.ListN.{take}
 use lib.Seq.{slice}
-use Rattle.descriptor.specs.Tree.{unnamed, named, Fields, empty, items, pairs, text, dimensions, members, Tree, node, Forest, nil, cons, treeSize, fieldsSize}
+use Rattle.descriptor.specs.Tree.{unnamed, named, Fields, empty, items, pairs, text, dimensions, members, Tree, node, Forest, nil, cons, treeSize, insideAt}
 use Rattle.descriptor.specs.Table.{rowOf}
-use Rattle.descriptor.specs.Outcome.{Outcome, refused, read, andThen, require, judge}
+use Rattle.descriptor.specs.Outcome.{Outcome, refused, read, andThen, require, Verdict, denied, granted, judge, settle}
 use Rattle.descriptor.specs.Check.{checked}
 use Rattle.descriptor.specs.Output.{Written, unwritten, writtenTo}
 use Rattle.descriptor.specs.declared.answer.Row.{Row}
@@ -41,7 +39,7 @@ writerFields (items xs) f s = refused 41 0
 writerFields (pairs ps) f s = refused 41 0
 writerFields text f s = refused 41 0
 writerFields (dimensions d) f s = refused 41 0
-writerFields (members k) f s = membersFrom f (4 + fieldsSize (members k)) s 0
+writerFields (members k) f s = membersFrom f (insideAt 0 (members k)) s 0
 
 abbrev pub writerMembers : Tree → List ℕ → Outcome (List Member)
 writerMembers (node c b f m) s = writerFields b f s
@@ -113,21 +111,19 @@ joinedBytes j nil s ms = read j []
 joinedBytes j (cons t f) s ms =
     andThen (memberBytes j t s (namesakes t ms)) (λ _ x. andThen (joinedBytes (j + 1) f s ms) (λ last xs. read last (x ++ xs)))
 
--- What `read_record` answers for the rig's descriptor w, the reader's r and the data s, and the output after it: "Between inputs: rig,
--- reader, data, path, then 40, 41, the reader's members in order, 50."
-unfoldable pub resolved : List ℕ → List ℕ → List ℕ → List ℕ → Written
-resolved w r s out =
-    judge (unwritten out) 1 (checked w)
+-- What reading the data s of the rig's descriptor w in the shape of the reader's r comes to: the joined bytes, or the first refusal.
+-- "Between inputs: rig, reader, data, path, then 40, 41, the reader's members in order"
+unfoldable pub recordBytes : List ℕ → List ℕ → List ℕ → Verdict (List ℕ)
+recordBytes w r s =
+    judge denied 1 (checked w)
     (λ t.
-    judge (unwritten out) 2 (checked r)
+    judge denied 2 (checked r)
     (λ u.
-    judge (unwritten out) 3 (walked big t s)
+    judge denied 3 (walked big t s)
     (λ _.
-    judge (unwritten out) 2 (readerMembers u)
-    (λ f.
-    judge (unwritten out) 1 (writerMembers t s)
-    (λ ms. judge (unwritten out) 2 (joinedBytes 0 f s ms) (λ bytes. writtenTo out bytes))))))
+    judge denied 2 (readerMembers u)
+    (λ f. judge denied 1 (writerMembers t s) (λ ms. judge denied 2 (joinedBytes 0 f s ms) (λ bytes. granted bytes))))))
 
--- "The bytes given are those written, in order; a refusal gives none."
-unfoldable pub given : Written → List ℕ
-given w = cond (eqb (w .answer .number) 0) (take (w .answer .place) (w .out)) []
+-- what `read_record` answers, and the output after it: the record's bytes, then "50"
+unfoldable pub resolved : List ℕ → List ℕ → List ℕ → List ℕ → Written
+resolved w r s out = settle (unwritten out) (writtenTo out) (recordBytes w r s)

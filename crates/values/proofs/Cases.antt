@@ -11,7 +11,7 @@ use Rattle.number.specs.Signed.{signed}
 use Rattle.descriptor.specs.Tree.{unnamed, empty, dimensions, members, Tree, node, nil, cons, fieldsSize, nameSize, treeSize}
 use Rattle.descriptor.specs.Encoding.{fieldBytes, nameBytes, encodeWith, encode}
 use Rattle.descriptor.specs.Outcome.{refused}
-use Rattle.flattened.specs.Width.{widthOf}
+use Rattle.descriptor.specs.Width.{widthOf}
 use Rattle.flattened.specs.Order.{big, little, numberAt}
 use Rattle.flattened.specs.Walk.{scalarAt, plainAt, sizesAt, sizesFit, product, arrayAt, repeat, walkFields, walk, walked}
 use Rattle.values.specs.Value.{Value, numbers, elements, parts, none, also, count, numberCount, numberWidth, numberLimit, AllBelow, Fits, plain, array, cluster, without, done, member, ordered, inOrder, flatten, Data}

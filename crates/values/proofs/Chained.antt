@@ -7,7 +7,7 @@ use Prim.Native.Nat.{ℕ, _+_, _*_, _≤_, _<_}
 use native.Mathlib.Omega.{arith}
 use lib.ListN.{length, length-append}
 use lib.Seq.{slice, slice-empty}
-use Rattle.descriptor.specs.Steps.{kindNumber}
+use Rattle.descriptor.proofs.CodeKinds.{kindNumber}
 use Rattle.descriptor.specs.Tree.{Tree, Forest, nil, cons}
 use Rattle.descriptor.specs.Encoding.{Bytes, FieldsFit, WellFormed, AllWellFormed}
 use Rattle.descriptor.specs.Outcome.{read}

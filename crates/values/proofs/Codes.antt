@@ -1,43 +1,25 @@
 -- What holds of the codes: a test that is computed over every code of one byte, and the rules that it gives at each.
 -- Rests on the table of widths, which ends below.
-use mathlib.Core.Path.{_≡_, refl, ap, _∙_}
+use mathlib.Core.Path.{_≡_, refl, ap}
 use mathlib.Core.Bool.{Bool, true, false, not, _&&_, _||_}
-use Prim.Native.Nat.{ℕ, zero, suc, _%_, _≤_, _<_}
+use Prim.Native.Nat.{ℕ, _%_, _≤_, _<_}
 use native.Mathlib.Decide.{decLt}
 use native.Mathlib.Omega.{arith}
 use borrow.Author.Tests.{eqb-true, ltb-true, not-true, le-leb, eq-eqb}
 use lib.Dec.{ltb, eqb}
-use Rattle.descriptor.specs.Codes.{Kind, kindOf, between}
-use Rattle.descriptor.specs.Steps.{kindNumber}
+use Rattle.descriptor.specs.Codes.{Kind, kindOf, between, isComplex, booleanCode}
 use Rattle.descriptor.proofs.Sizes.{and-true, both-true}
-use Rattle.flattened.specs.Width.{widthOf}
-use Rattle.flattened.proofs.Widths.{none-past}
-use Rattle.byteorder.specs.Reversal.{isComplex}
+use Rattle.descriptor.specs.Width.{widthOf}
+use Rattle.descriptor.proofs.CodeKinds.{kindNumber}
+use Rattle.descriptor.proofs.Widths.{passes, each, none-past}
 use Rattle.values.specs.Value.{numberCount}
-
--- whether a test passes at every number below n
-passes : (ℕ → Bool) → ℕ → Bool
-passes test zero = true
-passes test (suc n) = passes test n && test n
-
--- so it passes at each
-each : (test : ℕ → Bool) (n : ℕ) → passes test n ≡ true → (k : ℕ) → k < n → test k ≡ true
-unfolding passes
-each test zero e k h = absurd (omega arith)
-each test (suc n) e k h =
-    let parts = and-true (passes test n) (test n) e in
-    go (decLt k n) (each test n (parts .0) k) (parts .1)
-  where
-    go : Dec (k < n) → (k < n → test k ≡ true) → test n ≡ true → test k ≡ true
-    go (yes l) before last = before l
-    go (no l) before last = let e : k ≡ n = omega arith in ap test e ∙ last
 
 -- a complex number's width is even; a code of numbers has a width; and an enumeration has one number, which is no flag
 test : ℕ → Bool
 test c =
     (not (isComplex c) || eqb (widthOf c % 2) 0)
     && ((not (between 1 3 (kindNumber (kindOf c))) || ltb 0 (widthOf c))
-    && (not (eqb (kindNumber (kindOf c)) 2) || (eqb (numberCount c) 1 && not (eqb c 33))))
+    && (not (eqb (kindNumber (kindOf c)) 2) || (eqb (numberCount c) 1 && not (eqb c booleanCode))))
 
 -- the test, computed once
 all-pass : passes test 256 ≡ true
@@ -52,7 +34,7 @@ follows false b e h = cc
 module _ (c : ℕ) (h : c < 256) where
   parts : ((not (isComplex c) || eqb (widthOf c % 2) 0) ≡ true)
       × ((not (between 1 3 (kindNumber (kindOf c))) || ltb 0 (widthOf c)) ≡ true)
-      × ((not (eqb (kindNumber (kindOf c)) 2) || (eqb (numberCount c) 1 && not (eqb c 33))) ≡ true)
+      × ((not (eqb (kindNumber (kindOf c)) 2) || (eqb (numberCount c) 1 && not (eqb c booleanCode))) ≡ true)
   unfolding test
   parts =
       let r = and-true (not (isComplex c) || eqb (widthOf c % 2) 0) _ (each test 256 all-pass c h) in
@@ -64,12 +46,12 @@ module _ (c : ℕ) (h : c < 256) where
   some-width l k = ltb-true 0 (widthOf c) (follows _ _ (parts .1) (both-true (le-leb 1 _ l) (le-leb _ 3 k)))
 
   -- an enumeration has one number, which is no flag
-  pub one-number : kindOf c ≡ Kind.enumeration → (1 ≡ numberCount c) × (eqb c 33 ≡ false)
+  pub one-number : kindOf c ≡ Kind.enumeration → (1 ≡ numberCount c) × (eqb c booleanCode ≡ false)
   unfolding kindNumber
   one-number k =
-      let r = and-true (eqb (numberCount c) 1) (not (eqb c 33)) (follows _ _ (parts .2) (eq-eqb _ 2 (ap kindNumber k))) in
+      let r = and-true (eqb (numberCount c) 1) (not (eqb c booleanCode)) (follows _ _ (parts .2) (eq-eqb _ 2 (ap kindNumber k))) in
       let one : numberCount c ≡ 1 = eqb-true _ 1 (r .0) in
-      (omega arith, not-true (eqb c 33) (r .1))
+      (omega arith, not-true (eqb c booleanCode) (r .1))
 
 -- a complex number is of two halves
 pub halves : (c : ℕ) → isComplex c ≡ true → widthOf c % 2 ≡ 0

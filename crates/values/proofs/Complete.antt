@@ -12,10 +12,11 @@ use Rattle.descriptor.specs.Tree.{dimensions, Tree, Forest, nil, cons}
 use Rattle.descriptor.specs.Outcome.{Outcome, read, andThen, require}
 use Rattle.descriptor.proofs.Sizes.{both-true}
 use Rattle.encoding.proofs.Complete.{pass, onward}
-use Rattle.flattened.specs.Width.{widthOf}
+use Rattle.descriptor.specs.Width.{widthOf}
 use Rattle.flattened.specs.Order.{Order, big, numberAt}
 use Rattle.flattened.specs.Token.{TokenKind, scalar, string, sizes, Token, tokenBytes}
-use Rattle.flattened.specs.Walk.{lengthLimit, token, single, scalarAt, plainAt, textAt, sizesAt, sizesFit, product, arrayAt, follow, repeat, walkFields, walk, walkAll}
+use Rattle.descriptor.specs.Limits.{lengthLimit}
+use Rattle.flattened.specs.Walk.{token, single, scalarAt, plainAt, textAt, sizesAt, sizesFit, product, arrayAt, follow, repeat, walkFields, walk, walkAll}
 use Rattle.byteorder.specs.Reversal.{reverseEach, reverseToken, reversed}
 use Rattle.values.specs.Value.{Value, Values, count, numberWidth, AllBelow, Scalar, Fits, plain, enumeration, quantity, array, cluster, AllFit, without, element, EachFits, done, member, other, ordered, inOrder, flatten, flattenElements, flattenMembers}
 use Rattle.values.specs.Pieces.{piecesAt, elementPieces, memberPieces}

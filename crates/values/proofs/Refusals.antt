@@ -9,10 +9,11 @@ use lib.ListN.{length, getD}
 use Rattle.descriptor.specs.Limits.{dataLimit}
 use Rattle.descriptor.specs.Tree.{Fields, empty, items, pairs, text, dimensions, members, Tree, node, Forest, nil, cons}
 use Rattle.descriptor.specs.Outcome.{Outcome, refused, read, andThen, require}
-use Rattle.flattened.specs.Width.{widthOf}
+use Rattle.descriptor.specs.Width.{widthOf}
 use Rattle.flattened.specs.Order.{Order, numberAt}
 use Rattle.flattened.specs.Token.{Token}
-use Rattle.flattened.specs.Walk.{lengthLimit, scalarAt, plainAt, textAt, sizesAt, sizesFit, arrayAt, follow, repeat, walkFields, walk, walkAll, walked}
+use Rattle.descriptor.specs.Limits.{lengthLimit}
+use Rattle.flattened.specs.Walk.{scalarAt, plainAt, textAt, sizesAt, sizesFit, arrayAt, follow, repeat, walkFields, walk, walkAll, walked}
 
 -- where the outcome is a refusal, its number is above 0
 data Numbered {A : Type 0} : Outcome A → Type 0 where

@@ -9,10 +9,11 @@ use lib.Dec.{leb, eqb}
 use lib.ListN.{length, getD}
 use Rattle.descriptor.specs.Codes.{Kind, kindOf}
 use Rattle.descriptor.specs.Encoding.{Bytes}
-use Rattle.flattened.specs.Width.{widthOf}
+use Rattle.descriptor.specs.Width.{widthOf}
 use Rattle.flattened.specs.Order.{Order, numberAt}
 use Rattle.flattened.specs.Token.{scalar}
-use Rattle.byteorder.specs.Reversal.{isComplex, reverseEach, reverseToken}
+use Rattle.descriptor.specs.Codes.{isComplex}
+use Rattle.byteorder.specs.Reversal.{reverseEach, reverseToken}
 use Rattle.values.specs.Value.{numberCount, numberWidth, numberLimit, AllBelow, Scalar, inOrder}
 use Rattle.values.proofs.Codes.{one-number, halves}
 use Rattle.values.proofs.Places.{Here, here-first}

@@ -15,9 +15,10 @@ use Rattle.descriptor.specs.Encoding.{Bytes, FieldsFit, WellFormed, AllWellForm
 use Rattle.descriptor.proofs.Outcomes.{Holds, found, holds-require, holds-andThen, holds-weaken}
 use Rattle.descriptor.proofs.Sizes.{and-true}
 use Rattle.encoding.proofs.Slices.{bytes-slice}
-use Rattle.flattened.specs.Width.{widthOf}
+use Rattle.descriptor.specs.Width.{widthOf}
 use Rattle.flattened.specs.Order.{Order, numberAt}
-use Rattle.flattened.specs.Walk.{lengthLimit, plainAt, scalarAt, textAt, sizesAt, sizesFit, product, arrayAt, repeat, walkFields, walk, walkAll}
+use Rattle.descriptor.specs.Limits.{lengthLimit}
+use Rattle.flattened.specs.Walk.{plainAt, scalarAt, textAt, sizesAt, sizesFit, product, arrayAt, repeat, walkFields, walk, walkAll}
 use Rattle.values.specs.Value.{Value, numbers, characters, elements, parts, Values, none, also, count, numberCount, numberWidth, AllBelow, Scalar, Fits, plain, enumeration, quantity, string, array, cluster, AllFit, without, element, EachFits, done, member, ordered, inOrder, flatten, flattenElements, flattenMembers}
 use Rattle.values.proofs.Places.{Here, here-by, here-none, here-then}
 use Rattle.values.proofs.Numbers.{length-ordered, number-stands, numbersAt, length-numbersAt, length-inOrder, numbers-stand}

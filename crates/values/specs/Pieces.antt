@@ -4,7 +4,7 @@ use mathlib.Core.List.{List, [], _∷_, _++_}
 use Prim.Native.Nat.{ℕ, _+_, _*_}
 use lib.ListN.{length}
 use Rattle.descriptor.specs.Tree.{Tree, node, Forest, nil, cons}
-use Rattle.flattened.specs.Width.{widthOf}
+use Rattle.descriptor.specs.Width.{widthOf}
 use Rattle.flattened.specs.Order.{big}
 use Rattle.flattened.specs.Token.{scalar, string, sizes, Token}
 use Rattle.flattened.specs.Walk.{token}

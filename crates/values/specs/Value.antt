@@ -8,9 +8,9 @@ use lib.ListN.{length}
 use Rattle.number.specs.Endian.{beBytes, leBytes}
 use Rattle.descriptor.specs.Tree.{Name, Pair, empty, items, pairs, text, dimensions, members, Tree, node, Forest, nil, cons}
 use Rattle.descriptor.specs.Encoding.{Bytes}
-use Rattle.flattened.specs.Width.{widthOf}
+use Rattle.descriptor.specs.Width.{widthOf}
 use Rattle.flattened.specs.Order.{Order, big, little}
-use Rattle.byteorder.specs.Reversal.{isComplex}
+use Rattle.descriptor.specs.Codes.{isComplex}
 
 mutual
   pub data Value : Type 0 where

@@ -1,5 +1,6 @@
 -- `compare` judges the first, asks whether the second is equal to it, and judges the second where it is not. Rests on `Judged`.
 use mathlib.Core.Path.{sym, _∙_}
+use native.Mathlib.Omega.{arith}
 use denote.Ref.{now}
 use borrow.Author.Tests.{not-true, not-false}
 use Rattle.descriptor.proofs.Checked.{judged-refused, judged-place}
@@ -12,7 +13,7 @@ validate-requires : tie.Need-validate-requires
 validate-requires c κs = search needs
 
 not-compared-requires : tie.Need-not-compared-requires
-not-compared-requires c κs = judged-place (now (c .before .before .before .before .before .args .first)) _ (c .before .before .validate .ensures) (not-true _ (c .if1 .taken))
+not-compared-requires c κs = omega (arith, judged-place (now (c .before .before .before .before .before .args .first)) _ (c .before .before .validate .ensures) (not-true _ (c .if1 .taken)))
 
 returns : tie.Need-returns
 returns c =
@@ -36,7 +37,7 @@ validate-requires-2 : tie.Need-validate-requires-2
 validate-requires-2 c κs = search needs
 
 not-compared-requires-2 : tie.Need-not-compared-requires-2
-not-compared-requires-2 c κs = judged-place (now (c .before .before .before .before .before .before .before .before .before .before .args .second)) _ (c .before .before .validate2 .ensures) (not-true _ (c .if3 .taken))
+not-compared-requires-2 c κs = omega (arith, judged-place (now (c .before .before .before .before .before .before .before .before .before .before .args .second)) _ (c .before .before .validate2 .ensures) (not-true _ (c .if3 .taken)))
 
 returns-3 : tie.Need-returns-3
 returns-3 c =

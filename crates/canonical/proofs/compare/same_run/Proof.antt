@@ -4,7 +4,7 @@ use Prim.Native.Nat.{ℕ, _-_, _≤_}
 use native.Mathlib.Omega.{arith}
 use denote.Ref.{now}
 use borrow.Author.Needs.{needs}
-use Rattle.canonical.specs.Walk.{sameRun}
+use Rattle.canonical.specs.inner.Walk.{sameRun}
 use Rattle.canonical.proofs.Lists.{run-none, run-stop, run-on}
 use Rattle.canonical.proofs.compare.same_run.Statement.{statement}
 use Rattle.canonical.proofs.compare.same_run.Tie as tie

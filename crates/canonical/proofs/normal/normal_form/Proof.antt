@@ -5,8 +5,8 @@ use denote.Ref.{now}
 use borrow.Author.Needs.{needs}
 use borrow.Author.Tests.{not-true, not-false}
 use Rattle.descriptor.specs.Output.{Written}
-use Rattle.descriptor.specs.Standing.{standingRow, forestOf}
-use Rattle.canonical.specs.Walk.{clearForest}
+use Rattle.descriptor.specs.inner.Standing.{standingRow, forestOf}
+use Rattle.canonical.specs.inner.Walk.{clearForest}
 use Rattle.canonical.proofs.Whole.{top-inside}
 use Rattle.descriptor.proofs.Checked.{judged-refused, judged-place}
 use Rattle.canonical.proofs.Judged.{judged-accepted, accepted-small, normal-refused, normal-small, normal-written}
@@ -17,7 +17,7 @@ validate-requires : tie.Need-validate-requires
 validate-requires c κs = search needs
 
 answered-requires : tie.Need-answered-requires
-answered-requires c κs = judged-place (now (c .before .before .before .before .before .args .d)) _ (c .before .before .validate .ensures) (not-true _ (c .if1 .taken))
+answered-requires c κs = omega (arith, judged-place (now (c .before .before .before .before .before .args .d)) _ (c .before .before .validate .ensures) (not-true _ (c .if1 .taken)))
 
 returns : tie.Need-returns
 returns c =
@@ -30,7 +30,7 @@ answered-requires-2 : tie.Need-answered-requires-2
 answered-requires-2 c κs =
     let d = now (c .before .before .before .before .before .before .args .d) in
     let a = judged-accepted d _ (c .before .before .before .validate .ensures) (not-false _ (c .before .if1 .left)) in
-    accepted-small d a
+    omega (arith, accepted-small d a)
 
 returns-2 : tie.Need-returns-2
 returns-2 c =

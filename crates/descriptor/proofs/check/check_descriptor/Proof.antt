@@ -6,7 +6,7 @@ use borrow.Author.Needs.{needs}
 use borrow.Author.Tests.{not-true, not-false}
 use Rattle.descriptor.specs.Tree.{rowCount}
 use Rattle.descriptor.specs.Check.{checked}
-use Rattle.descriptor.specs.Table.{zeroRows}
+use Rattle.descriptor.specs.inner.Filling.{zeroRows}
 use Rattle.descriptor.proofs.Steps.{got}
 use Rattle.descriptor.proofs.Checked.{judged-refused, judged-place, few-rows, table-begun, check-accepted, check-refused}
 use borrow.Author.Needs.{needs}
@@ -20,7 +20,7 @@ answered-requires : tie.Need-answered-requires
 answered-requires c κs = let s = now (c .before .before .before .before .args .d) in
     let v = c .before .before .validate in
     let off = not-true _ (c .if1 .taken) in
-    judged-place s (v .result) (v .ensures) off
+    omega (arith, judged-place s (v .result) (v .ensures) off)
 
 zero-rows-requires : tie.Need-zero-rows-requires
 zero-rows-requires c κs = search needs
@@ -47,7 +47,7 @@ returns-2 : tie.Need-returns-2
 returns-2 c = let s = now (c .before .before .before .before .before .before .args .d) in
     let v = c .before .before .before .before .validate in
     let g = got rowCount (λ _. 0) (checked s) (v .result) (v .ensures) (not-false _ (c .before .before .if1 .left)) in
-    check-accepted s (v .result .next) (g .value) (g .eq) zeroRows (v .result .count) (g .counts) (c .answered2 .result) (c .answered2 .ensures) refl (c .before .tabulate .result) (c .before .tabulate .ensures)
+    check-accepted s (v .result .next) (g .value) (g .eq) zeroRows (v .result .value) (g .counts) (c .answered2 .result) (c .answered2 .ensures) refl (c .before .tabulate .result) (c .before .tabulate .ensures)
 
 pub check-descriptor-spec : {M : Type 1} → statement M
 check-descriptor-spec =

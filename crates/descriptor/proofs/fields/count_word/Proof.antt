@@ -12,32 +12,29 @@ use Rattle.descriptor.proofs.fields.count_word.Tie as tie
 add-if1 : tie.Need-add-if1
 add-if1 c = search needs
 
-refuse-requires : tie.Need-refuse-requires
-refuse-requires c κs = search needs
+overrun-requires : tie.Need-overrun-requires
+overrun-requires c κs = search needs
 
 returns : tie.Need-returns
 unfolding countAt
-returns c = rw (c .refuse .ensures) (simp (lt-leb _ _ (c .before .if1 .taken)))
-
-add-be16 : tie.Need-add-be16
-add-be16 c = search needs
+returns c = rw (c .overrun .ensures) (simp (lt-leb _ _ (c .before .if1 .taken)))
 
 be16-requires : tie.Need-be16-requires
 be16-requires c κs = search needs
 
-refuse-requires-2 : tie.Need-refuse-requires-2
-refuse-requires-2 c κs = search needs
+bad-count-requires : tie.Need-bad-count-requires
+bad-count-requires c κs = search needs
 
 returns-2 : tie.Need-returns-2
 unfolding countAt
-returns-2 c = rw (c .refuse2 .ensures) (simp (le-leb _ _ (c .before .before .before .if1 .left), lt-leb _ _ (rw (c .before .before .be16 .ensures .eq) at (c .before .if2 .taken))))
+returns-2 c = rw (c .bad-count .ensures) (simp (le-leb _ _ (c .before .before .before .if1 .left), lt-leb _ _ (rw (c .before .before .be16 .ensures .eq) at (c .before .if2 .taken))))
 
-refuse-requires-3 : tie.Need-refuse-requires-3
-refuse-requires-3 c κs = search needs
+bad-count-requires-2 : tie.Need-bad-count-requires-2
+bad-count-requires-2 c κs = search needs
 
 returns-3 : tie.Need-returns-3
 unfolding countAt
-returns-3 c = rw (c .refuse3 .ensures) (simp (le-leb _ _ (c .before .before .before .before .if1 .left), le-leb _ _ (rw (c .before .before .before .be16 .ensures .eq) at (c .before .before .if2 .left)), lt-leb _ _ (rw (c .before .before .before .be16 .ensures .eq) at (c .before .if3 .taken))))
+returns-3 c = rw (c .bad-count2 .ensures) (simp (le-leb _ _ (c .before .before .before .before .if1 .left), le-leb _ _ (rw (c .before .before .before .be16 .ensures .eq) at (c .before .before .if2 .left)), lt-leb _ _ (rw (c .before .before .before .be16 .ensures .eq) at (c .before .if3 .taken))))
 
 add-accept : tie.Need-add-accept
 add-accept c = search needs
@@ -54,13 +51,12 @@ count-word-spec =
     tie.close
     (tie.spec
     add-if1
-    refuse-requires
+    overrun-requires
     returns
-    add-be16
     be16-requires
-    refuse-requires-2
+    bad-count-requires
     returns-2
-    refuse-requires-3
+    bad-count-requires-2
     returns-3
     add-accept
     accept-requires

@@ -6,7 +6,7 @@ use borrow.Author.Needs.{needs}
 use borrow.Author.Tests.{eq-eqb, ne-eqb, le-leb, lt-leb, lt-ltb, le-ltb, not-true, not-false}
 use Prim.Native.Nat.{ℕ, _+_, _-_, _<_, _≤_}
 use Rattle.descriptor.specs.Check.{itemsAt}
-use Rattle.descriptor.specs.Steps.{readStep}
+use Rattle.descriptor.specs.inner.Steps.{readStep}
 use Rattle.descriptor.proofs.Runs.{ItemsLoop, itemsFrom, one-less, none-left, items-begin, items-more, items-over, items-cut, items-none}
 use Rattle.descriptor.proofs.fields.packed_strings.Statement.{statement}
 use Rattle.descriptor.proofs.fields.packed_strings.Tie as tie
@@ -20,11 +20,11 @@ abbrev μ-loop : tie.MeasureT-loop
 loop-holds : tie.Need-loop-holds Inv-loop μ-loop
 loop-holds c = items-begin (now (c .before .args .d)) (c .before .args .p) (c .before .args .stop) (c .before .args .k) (c .before .args .start) (c .before .pre .from)
 
-refuse-requires : tie.Need-refuse-requires Inv-loop μ-loop
-refuse-requires c κs = search needs
+overrun-requires : tie.Need-overrun-requires Inv-loop μ-loop
+overrun-requires c κs = search needs
 
 returns : tie.Need-returns Inv-loop μ-loop
-returns c = c .refuse .ensures ∙ sym (c .before .before .before .loop .inv .same ∙ one-less (λ j. itemsFrom (now (c .before .before .before .before .before .args .d)) (c .before .before .before .before .before .args .p) (c .before .before .before .before .before .args .stop) (c .before .before .before .loop .i) j (c .before .before .before .loop .at)) (c .before .before .before .before .before .args .k) (c .before .before .before .loop .i) (c .before .before .loop-test .taken) ∙ items-over (now (c .before .before .before .before .before .args .d)) (c .before .before .before .before .before .args .p) (c .before .before .before .before .before .args .stop) _ (c .before .before .before .loop .i) (c .before .before .before .loop .at) (c .before .if1 .taken))
+returns c = c .overrun .ensures ∙ sym (c .before .before .before .loop .inv .same ∙ one-less (λ j. itemsFrom (now (c .before .before .before .before .before .args .d)) (c .before .before .before .before .before .args .p) (c .before .before .before .before .before .args .stop) (c .before .before .before .loop .i) j (c .before .before .before .loop .at)) (c .before .before .before .before .before .args .k) (c .before .before .before .loop .i) (c .before .before .loop-test .taken) ∙ items-over (now (c .before .before .before .before .before .args .d)) (c .before .before .before .before .before .args .p) (c .before .before .before .before .before .args .stop) _ (c .before .before .before .loop .i) (c .before .before .before .loop .at) (c .before .if1 .taken))
 
 add-next : tie.Need-add-next Inv-loop μ-loop
 add-next c = omega (arith, c .if1 .left, c .before .before .before .before .pre .inside)
@@ -38,11 +38,11 @@ wide-requires c κs = search needs
 add-next-2 : tie.Need-add-next-2 Inv-loop μ-loop
 add-next-2 c = omega (arith, c .before .before .if1 .left, c .before .before .before .before .before .before .pre .inside, c .before .before .before .before .before .before .pre .small, c .wide .ensures .below)
 
-refuse-requires-2 : tie.Need-refuse-requires-2 Inv-loop μ-loop
-refuse-requires-2 c κs = search needs
+overrun-requires-2 : tie.Need-overrun-requires-2 Inv-loop μ-loop
+overrun-requires-2 c κs = search needs
 
 returns-2 : tie.Need-returns-2 Inv-loop μ-loop
-returns-2 c = c .refuse2 .ensures ∙ sym (c .before .before .before .before .before .before .loop .inv .same ∙ one-less (λ j. itemsFrom (now (c .before .before .before .before .before .before .before .before .args .d)) (c .before .before .before .before .before .before .before .before .args .p) (c .before .before .before .before .before .before .before .before .args .stop) (c .before .before .before .before .before .before .loop .i) j (c .before .before .before .before .before .before .loop .at)) (c .before .before .before .before .before .before .before .before .args .k) (c .before .before .before .before .before .before .loop .i) (c .before .before .before .before .before .loop-test .taken) ∙ items-cut (now (c .before .before .before .before .before .before .before .before .args .d)) (c .before .before .before .before .before .before .before .before .args .p) (c .before .before .before .before .before .before .before .before .args .stop) _ (c .before .before .before .before .before .before .loop .i) (c .before .before .before .before .before .before .loop .at) (c .before .before .before .before .if1 .left) (rw (c .before .before .wide .ensures .eq) at (c .before .if2 .taken)))
+returns-2 c = c .overrun2 .ensures ∙ sym (c .before .before .before .before .before .before .loop .inv .same ∙ one-less (λ j. itemsFrom (now (c .before .before .before .before .before .before .before .before .args .d)) (c .before .before .before .before .before .before .before .before .args .p) (c .before .before .before .before .before .before .before .before .args .stop) (c .before .before .before .before .before .before .loop .i) j (c .before .before .before .before .before .before .loop .at)) (c .before .before .before .before .before .before .before .before .args .k) (c .before .before .before .before .before .before .loop .i) (c .before .before .before .before .before .loop-test .taken) ∙ items-cut (now (c .before .before .before .before .before .before .before .before .args .d)) (c .before .before .before .before .before .before .before .before .args .p) (c .before .before .before .before .before .before .before .before .args .stop) _ (c .before .before .before .before .before .before .loop .i) (c .before .before .before .before .before .before .loop .at) (c .before .before .before .before .if1 .left) (rw (c .before .before .wide .ensures .eq) at (c .before .if2 .taken)))
 
 add-i : tie.Need-add-i Inv-loop μ-loop
 add-i c = search needs
@@ -73,13 +73,13 @@ packed-strings-spec =
     Inv-loop
     μ-loop
     loop-holds
-    refuse-requires
+    overrun-requires
     returns
     add-next
     shared-slice-read-wide
     wide-requires
     add-next-2
-    refuse-requires-2
+    overrun-requires-2
     returns-2
     add-i
     loop-less

@@ -9,7 +9,7 @@ use lib.Seq.{length-slice}
 use mathlib.Core.Logic.{inl, inr}
 use Rattle.descriptor.specs.Check.{nameAt}
 use Rattle.descriptor.specs.Table.{nameLength}
-use Rattle.descriptor.specs.Steps.{readStep}
+use Rattle.descriptor.specs.inner.Steps.{readStep}
 use Rattle.descriptor.proofs.Names.{name-read}
 use borrow.Author.Needs.{needs}
 use Rattle.descriptor.proofs.name.name.Statement.{statement}
@@ -40,22 +40,22 @@ add-odd c = omega (arith, c .wide .ensures .below)
 add-if2 : tie.Need-add-if2
 add-if2 c = omega (arith, c .before .before .if1 .left, c .before .before .before .before .pre .from, c .before .before .before .before .pre .inside, c .before .before .before .before .pre .small, c .wide .ensures .below)
 
-refuse-requires : tie.Need-refuse-requires
-refuse-requires c κs = search needs
+no-name-requires : tie.Need-no-name-requires
+no-name-requires c κs = search needs
 
 returns-2 : tie.Need-returns-2
 unfolding nameAt
-returns-2 c = rw (c .refuse .ensures) (simp (ne-eqb _ _ (c .before .before .before .before .if1 .left), ne-eqb _ _ (rw (c .before .before .wide .ensures .eq) at (c .before .if2 .taken))))
+returns-2 c = rw (c .no-name .ensures) (simp (ne-eqb _ _ (c .before .before .before .before .if1 .left), ne-eqb _ _ (rw (c .before .before .wide .ensures .eq) at (c .before .if2 .taken))))
 
 shared-slice-read-if4 : tie.Need-shared-slice-read-if4
 shared-slice-read-if4 c = omega (arith, c .before .if3 .taken, c .before .before .if2 .left, c .before .before .before .before .before .before .before .pre .inside)
 
-refuse-requires-2 : tie.Need-refuse-requires-2
-refuse-requires-2 c κs = search needs
+no-name-requires-2 : tie.Need-no-name-requires-2
+no-name-requires-2 c κs = search needs
 
 returns-3 : tie.Need-returns-3
 unfolding nameAt
-returns-3 c = rw (c .refuse2 .ensures) (simp (ne-eqb _ _ (c .before .before .before .before .before .before .before .if1 .left), eq-eqb _ _ (rw (c .before .before .before .before .before .wide .ensures .eq) at (c .before .before .before .before .if2 .left)), ne-eqb _ _ (rw (c .before .before .before .before .before .wide .ensures .eq) at (c .before .before .before .if3 .taken)), ne-eqb _ _ (rw (c .before .before .before .before .before .wide .ensures .eq) at (c .before .if4 .taken))))
+returns-3 c = rw (c .no-name2 .ensures) (simp (ne-eqb _ _ (c .before .before .before .before .before .before .before .if1 .left), eq-eqb _ _ (rw (c .before .before .before .before .before .wide .ensures .eq) at (c .before .before .before .before .if2 .left)), ne-eqb _ _ (rw (c .before .before .before .before .before .wide .ensures .eq) at (c .before .before .before .if3 .taken)), ne-eqb _ _ (rw (c .before .before .before .before .before .wide .ensures .eq) at (c .before .if4 .taken))))
 
 accept-requires-2 : tie.Need-accept-requires-2
 accept-requires-2 c κs = search needs
@@ -75,10 +75,10 @@ name-spec =
     add-last-2
     add-odd
     add-if2
-    refuse-requires
+    no-name-requires
     returns-2
     shared-slice-read-if4
-    refuse-requires-2
+    no-name-requires-2
     returns-3
     accept-requires-2
     returns-4)

@@ -4,7 +4,7 @@ use native.Mathlib.Omega.{arith}
 use denote.Ref.{now}
 use borrow.Author.Needs.{needs}
 use borrow.Author.Tests.{eq-eqb, ne-eqb}
-use Rattle.descriptor.specs.Filling.{rowRead}
+use Rattle.descriptor.specs.inner.Filling.{rowRead}
 use borrow.Author.Needs.{needs}
 use Rattle.descriptor.proofs.table.row_at.Statement.{statement}
 use Rattle.descriptor.proofs.table.row_at.Tie as tie

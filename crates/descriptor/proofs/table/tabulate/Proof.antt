@@ -5,19 +5,12 @@ use denote.Ref.{now}
 use borrow.Author.Needs.{needs}
 use Prim.Native.Nat.{suc, _+_, _-_}
 use Rattle.descriptor.specs.Limits.{depthLimit, rowLimit}
-use Rattle.descriptor.specs.Filling.{Table, emptyTable, filled}
+use Rattle.descriptor.specs.inner.Standing.{isRead}
+use Rattle.descriptor.specs.inner.Filling.{Table, emptyTable, filled}
 use Rattle.descriptor.proofs.Filling.{first, low, room}
 use Rattle.descriptor.proofs.Resuming.{Resuming, leftAt, resume-begin, resume-as, resume-done, close-asks, close-row, resume-row, leaf-row, resume-leaf, resume-open}
 use Rattle.descriptor.proofs.table.tabulate.Statement.{statement}
 use Rattle.descriptor.proofs.table.tabulate.Tie as tie
-use Rattle.descriptor.proofs.table.tabulate.Reads as reads
-use Rattle.descriptor.proofs.table.tabulate.Lts as lts
-use Rattle.descriptor.proofs.fields.fields.Reads as fields-reads
-use Rattle.descriptor.proofs.header.code_at.Reads as code-at-reads
-use Rattle.descriptor.proofs.header.size_at.Reads as size-at-reads
-use Rattle.descriptor.proofs.table.none_open.Reads as none-open-reads
-use Rattle.descriptor.proofs.table.row_at.Reads as row-at-reads
-use Rattle.descriptor.proofs.table.zero_rows.Reads as zero-rows-reads
 
 abbrev Inv-loop : tie.InvT-loop
 Inv-loop d rows₀ open₀ n₀ at₀ level₀ k₀ rows «open» n at level k =
@@ -26,19 +19,15 @@ Inv-loop d rows₀ open₀ n₀ at₀ level₀ k₀ rows «open» n at level k =
 abbrev μ-loop : tie.MeasureT-loop
 μ-loop d rows₀ open₀ n₀ at₀ level₀ k₀ rows «open» n at level k = (rowLimit - n) + (rowLimit - n) + level
 
--- src/table.rt:89:20
 zero-rows-requires : tie.Need-zero-rows-requires Inv-loop μ-loop
 zero-rows-requires c κs = search needs
 
--- src/table.rt:90:21
 none-open-requires : tie.Need-none-open-requires Inv-loop μ-loop
 none-open-requires c κs = search needs
 
--- src/table.rt:95:5
 loop-holds : tie.Need-loop-holds Inv-loop μ-loop
 loop-holds c = resume-begin (now (c .before .before .before .args .d)) (c .before .zero-rows .result) (c .before .zero-rows .ensures) (c .none-open .result) (c .before .before .before .pre)
 
--- src/table.rt:98:17
 returns : tie.Need-returns Inv-loop μ-loop
 returns c = let s = now (c .before .before .before .before .before .before .args .d) in
     let l = c .before .before .loop in
@@ -46,23 +35,18 @@ returns c = let s = now (c .before .before .before .before .before .before .args
     let t : Table = record { rows = l .rows; n = l .n; at = l .at } in
     ap (λ (x : Table). x .rows) (resume-done s goal t (l .«open») (resume-as s goal t (l .«open») (l .level) (l .k) 0 0 (l .inv) (c .if2 .taken) (c .before .if1 .taken)))
 
--- src/table.rt:100:13
 sub-level : tie.Need-sub-level Inv-loop μ-loop
 sub-level c = omega (arith, c .if2 .left)
 
--- src/table.rt:101:21
 mul-o : tie.Need-mul-o Inv-loop μ-loop
 mul-o c = omega (arith, c .before .before .loop .inv .deep)
 
--- src/table.rt:101:21
 array-copy-out-o : tie.Need-array-copy-out-o Inv-loop μ-loop
 array-copy-out-o c = omega (arith, c .if2 .left, c .before .before .loop .inv .deep)
 
--- src/table.rt:103:33
 add-row-at : tie.Need-add-row-at Inv-loop μ-loop
 add-row-at c = omega (arith, c .before .before .before .loop .inv .deep)
 
--- src/table.rt:103:23
 row-at-requires : tie.Need-row-at-requires Inv-loop μ-loop
 row-at-requires c κs = let s = now (c .before .before .before .before .before .before .before .args .d) in
     let l = c .before .before .before .loop in
@@ -72,7 +56,6 @@ row-at-requires c κs = let s = now (c .before .before .before .before .before .
     let r : Resuming s goal t (l .«open») (suc j) 0 = resume-as s goal t (l .«open») (l .level) (l .k) (suc j) 0 (l .inv) (omega (arith, c .before .if2 .left)) (c .before .before .if1 .taken) in
     close-row s goal t (l .«open») j r
 
--- src/table.rt:103:13
 mul-rows : tie.Need-mul-rows Inv-loop μ-loop
 mul-rows c = let s = now (c .before .before .before .before .before .before .before .before .args .d) in
     let l = c .before .before .before .before .loop in
@@ -82,7 +65,6 @@ mul-rows c = let s = now (c .before .before .before .before .before .before .bef
     let r : Resuming s goal t (l .«open») (suc j) 0 = resume-as s goal t (l .«open») (l .level) (l .k) (suc j) 0 (l .inv) (omega (arith, c .before .before .if2 .left)) (c .before .before .before .if1 .taken) in
     omega (arith, close-asks s goal t (l .«open») j r .place)
 
--- src/table.rt:103:13
 array-set-from-rows : tie.Need-array-set-from-rows Inv-loop μ-loop
 array-set-from-rows c = let s = now (c .before .before .before .before .before .before .before .before .args .d) in
     let l = c .before .before .before .before .loop in
@@ -92,7 +74,6 @@ array-set-from-rows c = let s = now (c .before .before .before .before .before .
     let r : Resuming s goal t (l .«open») (suc j) 0 = resume-as s goal t (l .«open») (l .level) (l .k) (suc j) 0 (l .inv) (omega (arith, c .before .before .if2 .left)) (c .before .before .before .if1 .taken) in
     close-asks s goal t (l .«open») j r .place
 
--- src/table.rt:104:18
 add-at : tie.Need-add-at Inv-loop μ-loop
 add-at c = let s = now (c .before .before .before .before .before .before .before .before .before .args .d) in
     let l = c .before .before .before .before .before .loop in
@@ -103,11 +84,9 @@ add-at c = let s = now (c .before .before .before .before .before .before .befor
     let row = close-row s goal t (l .«open») j r in
     omega (arith, row .inside, row .small)
 
--- src/table.rt:95:5
 loop-less : tie.Need-loop-less Inv-loop μ-loop
 loop-less c = omega (arith, c .before .before .before .if2 .left)
 
--- src/table.rt:95:5
 loop-again : tie.Need-loop-again Inv-loop μ-loop
 loop-again c = let s = now (c .before .before .before .before .before .before .before .before .before .args .d) in
     let l = c .before .before .before .before .before .loop in
@@ -117,7 +96,6 @@ loop-again c = let s = now (c .before .before .before .before .before .before .b
     let r : Resuming s goal t (l .«open») (suc j) 0 = resume-as s goal t (l .«open») (l .level) (l .k) (suc j) 0 (l .inv) (omega (arith, c .before .before .before .if2 .left)) (c .before .before .before .before .if1 .taken) in
     resume-row s goal t (l .«open») j r (c .before .row-at .result) (c .before .row-at .ensures)
 
--- src/table.rt:107:17
 size-at-requires : tie.Need-size-at-requires Inv-loop μ-loop
 size-at-requires c κs = let s = now (c .before .before .before .before .before .args .d) in
     let l = c .before .loop in
@@ -129,7 +107,6 @@ size-at-requires c κs = let s = now (c .before .before .before .before .before 
     let o = w .opened in
     omega (arith, o .size, o .least, o .inside)
 
--- src/table.rt:108:17
 code-at-requires : tie.Need-code-at-requires Inv-loop μ-loop
 code-at-requires c κs = let s = now (c .before .before .before .before .before .before .args .d) in
     let l = c .before .before .loop in
@@ -141,9 +118,8 @@ code-at-requires c κs = let s = now (c .before .before .before .before .before 
     let o = w .opened in
     omega (arith, o .size, o .least, o .inside)
 
--- src/table.rt:109:41
-add-fields : tie.Need-add-fields Inv-loop μ-loop
-add-fields c = let s = now (c .before .before .before .before .before .before .before .args .d) in
+add-shape : tie.Need-add-shape Inv-loop μ-loop
+add-shape c = let s = now (c .before .before .before .before .before .before .before .args .d) in
     let l = c .before .before .before .loop in
     let goal = filled s depthLimit 1 emptyTable in
     let t : Table = record { rows = l .rows; n = l .n; at = l .at } in
@@ -153,9 +129,9 @@ add-fields c = let s = now (c .before .before .before .before .before .before .b
     let o = w .opened in
     omega (arith, o .size, o .inside, r .pre .small, c .before .size-at .ensures .eq)
 
--- src/table.rt:109:17
-fields-requires : tie.Need-fields-requires Inv-loop μ-loop
-fields-requires c κs = let s = now (c .before .before .before .before .before .before .before .args .d) in
+shape-requires : tie.Need-shape-requires Inv-loop μ-loop
+unfolding isRead
+shape-requires c κs = let s = now (c .before .before .before .before .before .before .before .args .d) in
     let l = c .before .before .before .loop in
     let goal = filled s depthLimit 1 emptyTable in
     let t : Table = record { rows = l .rows; n = l .n; at = l .at } in
@@ -163,17 +139,14 @@ fields-requires c κs = let s = now (c .before .before .before .before .before .
     let r : Resuming s goal t (l .«open») (l .level) (suc k) = resume-as s goal t (l .«open») (l .level) (l .k) (l .level) (suc k) (l .inv) refl (omega (arith, c .before .before .if1 .left)) in
     let w = first s (leftAt (l .level)) k t (r .pre) in
     let o = w .opened in
-    record { from = omega arith; inside = omega (arith, o .size, o .inside, c .before .size-at .ensures .eq); small = r .pre .small }
+    (record { is = ap isRead (w .stands); small = omega (arith, r .pre .small) }, omega (arith, c .before .size-at .ensures .eq))
 
--- src/table.rt:116:27
 sub-t27 : tie.Need-sub-t27 Inv-loop μ-loop
 sub-t27 c = omega (arith, c .before .before .before .before .before .if1 .left)
 
--- src/table.rt:111:17
 mul-open : tie.Need-mul-open Inv-loop μ-loop
 mul-open c = omega (arith, c .before .before .before .before .before .before .loop .inv .deep)
 
--- src/table.rt:111:17
 array-set-from-open : tie.Need-array-set-from-open Inv-loop μ-loop
 array-set-from-open c = let s = now (c .before .before .before .before .before .before .before .before .before .before .args .d) in
     let l = c .before .before .before .before .before .before .loop in
@@ -185,11 +158,9 @@ array-set-from-open c = let s = now (c .before .before .before .before .before .
     let o = w .opened in
     omega (arith, low s (leftAt (l .level)) k t (r .pre) w)
 
--- src/table.rt:119:17
 add-level : tie.Need-add-level Inv-loop μ-loop
 add-level c = omega (arith, c .before .before .before .before .before .before .loop .inv .deep)
 
--- src/table.rt:120:17
 add-n : tie.Need-add-n Inv-loop μ-loop
 add-n c = let s = now (c .before .before .before .before .before .before .before .before .before .before .args .d) in
     let l = c .before .before .before .before .before .before .loop in
@@ -201,7 +172,6 @@ add-n c = let s = now (c .before .before .before .before .before .before .before
     let o = w .opened in
     omega (arith, room s (leftAt (l .level)) k t (r .pre) w)
 
--- src/table.rt:95:5
 loop-less-2 : tie.Need-loop-less-2 Inv-loop μ-loop
 loop-less-2 c = let s = now (c .before .before .before .before .before .before .before .before .before .before .args .d) in
     let l = c .before .before .before .before .before .before .loop in
@@ -213,7 +183,6 @@ loop-less-2 c = let s = now (c .before .before .before .before .before .before .
     let o = w .opened in
     omega (arith, room s (leftAt (l .level)) k t (r .pre) w)
 
--- src/table.rt:95:5
 loop-again-2 : tie.Need-loop-again-2 Inv-loop μ-loop
 loop-again-2 c = let s = now (c .before .before .before .before .before .before .before .before .before .before .args .d) in
     let l = c .before .before .before .before .before .before .loop in
@@ -223,13 +192,11 @@ loop-again-2 c = let s = now (c .before .before .before .before .before .before 
     let r : Resuming s goal t (l .«open») (l .level) (suc k) = resume-as s goal t (l .«open») (l .level) (l .k) (l .level) (suc k) (l .inv) refl (omega (arith, c .before .before .before .before .before .if1 .left)) in
     let w = first s (leftAt (l .level)) k t (r .pre) in
     let o = w .opened in
-    resume-as s goal _ _ _ _ _ _ (resume-open s goal t (l .«open») (l .level) k r w (c .before .before .before .before .size-at .result) (c .before .before .before .before .size-at .ensures .eq) (c .before .before .before .code-at .result) (c .before .before .before .code-at .ensures) (c .before .before .fields .result) (c .before .before .fields .ensures)) (omega arith) refl
+    resume-as s goal _ _ _ _ _ _ (resume-open s goal t (l .«open») (l .level) k r w (c .before .before .before .before .size-at .result) (c .before .before .before .before .size-at .ensures .eq) (c .before .before .before .code-at .result) (c .before .before .before .code-at .ensures) (c .before .before .shape .result) (c .before .before .shape .ensures)) (omega arith) refl
 
--- src/table.rt:124:37
 add-row-at-2 : tie.Need-add-row-at-2 Inv-loop μ-loop
 add-row-at-2 c = omega (arith, c .before .before .before .before .before .before .loop .inv .deep)
 
--- src/table.rt:124:27
 row-at-requires-2 : tie.Need-row-at-requires-2 Inv-loop μ-loop
 row-at-requires-2 c κs = let s = now (c .before .before .before .before .before .before .before .before .before .before .args .d) in
     let l = c .before .before .before .before .before .before .loop in
@@ -239,9 +206,8 @@ row-at-requires-2 c κs = let s = now (c .before .before .before .before .before
     let r : Resuming s goal t (l .«open») (l .level) (suc k) = resume-as s goal t (l .«open») (l .level) (l .k) (l .level) (suc k) (l .inv) refl (omega (arith, c .before .before .before .before .before .if1 .left)) in
     let w = first s (leftAt (l .level)) k t (r .pre) in
     let o = w .opened in
-    leaf-row s goal t (l .«open») (l .level) k r w (c .before .before .before .before .size-at .result) (c .before .before .before .before .size-at .ensures .eq) (c .before .before .before .code-at .result) (c .before .before .before .code-at .ensures) (c .before .before .fields .result) (c .before .before .fields .ensures) (omega (arith, c .if3 .left))
+    leaf-row s goal t (l .«open») (l .level) k r w (c .before .before .before .before .size-at .result) (c .before .before .before .before .size-at .ensures .eq) (c .before .before .before .code-at .result) (c .before .before .before .code-at .ensures) (c .before .before .shape .result) (c .before .before .shape .ensures) (omega (arith, c .if3 .left))
 
--- src/table.rt:124:17
 mul-rows-2 : tie.Need-mul-rows-2 Inv-loop μ-loop
 mul-rows-2 c = let s = now (c .before .before .before .before .before .before .before .before .before .before .before .args .d) in
     let l = c .before .before .before .before .before .before .before .loop in
@@ -253,7 +219,6 @@ mul-rows-2 c = let s = now (c .before .before .before .before .before .before .b
     let o = w .opened in
     omega (arith, room s (leftAt (l .level)) k t (r .pre) w)
 
--- src/table.rt:124:17
 array-set-from-rows-2 : tie.Need-array-set-from-rows-2 Inv-loop μ-loop
 array-set-from-rows-2 c = let s = now (c .before .before .before .before .before .before .before .before .before .before .before .args .d) in
     let l = c .before .before .before .before .before .before .before .loop in
@@ -265,7 +230,6 @@ array-set-from-rows-2 c = let s = now (c .before .before .before .before .before
     let o = w .opened in
     omega (arith, room s (leftAt (l .level)) k t (r .pre) w)
 
--- src/table.rt:125:17
 add-n-2 : tie.Need-add-n-2 Inv-loop μ-loop
 add-n-2 c = let s = now (c .before .before .before .before .before .before .before .before .before .before .before .args .d) in
     let l = c .before .before .before .before .before .before .before .loop in
@@ -277,7 +241,6 @@ add-n-2 c = let s = now (c .before .before .before .before .before .before .befo
     let o = w .opened in
     omega (arith, room s (leftAt (l .level)) k t (r .pre) w)
 
--- src/table.rt:126:17
 add-at-2 : tie.Need-add-at-2 Inv-loop μ-loop
 add-at-2 c = let s = now (c .before .before .before .before .before .before .before .before .before .before .before .args .d) in
     let l = c .before .before .before .before .before .before .before .loop in
@@ -289,11 +252,9 @@ add-at-2 c = let s = now (c .before .before .before .before .before .before .bef
     let o = w .opened in
     omega (arith, o .size, o .inside, r .pre .small, c .before .before .before .before .before .size-at .ensures .eq)
 
--- src/table.rt:127:17
 sub-k : tie.Need-sub-k Inv-loop μ-loop
 sub-k c = omega (arith, c .before .before .before .before .before .before .if1 .left)
 
--- src/table.rt:95:5
 loop-less-3 : tie.Need-loop-less-3 Inv-loop μ-loop
 loop-less-3 c = let s = now (c .before .before .before .before .before .before .before .before .before .before .before .args .d) in
     let l = c .before .before .before .before .before .before .before .loop in
@@ -305,7 +266,6 @@ loop-less-3 c = let s = now (c .before .before .before .before .before .before .
     let o = w .opened in
     omega (arith, room s (leftAt (l .level)) k t (r .pre) w)
 
--- src/table.rt:95:5
 loop-again-3 : tie.Need-loop-again-3 Inv-loop μ-loop
 loop-again-3 c = let s = now (c .before .before .before .before .before .before .before .before .before .before .before .args .d) in
     let l = c .before .before .before .before .before .before .before .loop in
@@ -315,7 +275,7 @@ loop-again-3 c = let s = now (c .before .before .before .before .before .before 
     let r : Resuming s goal t (l .«open») (l .level) (suc k) = resume-as s goal t (l .«open») (l .level) (l .k) (l .level) (suc k) (l .inv) refl (omega (arith, c .before .before .before .before .before .before .if1 .left)) in
     let w = first s (leftAt (l .level)) k t (r .pre) in
     let o = w .opened in
-    resume-leaf s goal t (l .«open») (l .level) k r w (c .before .before .before .before .before .size-at .result) (c .before .before .before .before .before .size-at .ensures .eq) (c .before .before .before .before .code-at .result) (c .before .before .before .before .code-at .ensures) (c .before .before .before .fields .result) (c .before .before .before .fields .ensures) (omega (arith, c .before .if3 .left)) (c .row-at2 .result) (c .row-at2 .ensures)
+    resume-leaf s goal t (l .«open») (l .level) k r w (c .before .before .before .before .before .size-at .result) (c .before .before .before .before .before .size-at .ensures .eq) (c .before .before .before .before .code-at .result) (c .before .before .before .before .code-at .ensures) (c .before .before .before .shape .result) (c .before .before .before .shape .ensures) (omega (arith, c .before .if3 .left)) (c .row-at2 .result) (c .row-at2 .ensures)
 
 pub tabulate-spec : {M : Type 1} → statement M
 tabulate-spec =
@@ -339,8 +299,8 @@ tabulate-spec =
     loop-again
     size-at-requires
     code-at-requires
-    add-fields
-    fields-requires
+    add-shape
+    shape-requires
     sub-t27
     mul-open
     array-set-from-open

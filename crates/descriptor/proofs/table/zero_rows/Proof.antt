@@ -2,7 +2,7 @@
 use mathlib.Core.Path.{ap}
 use lib.ListN.{replicate}
 use borrow.Author.Needs.{needs}
-use Rattle.descriptor.specs.Table.{zeroRows}
+use Rattle.descriptor.specs.inner.Filling.{zeroRows}
 use Rattle.descriptor.specs.declared.answer.Row.{Row}
 use Rattle.descriptor.proofs.table.zero_rows.Statement.{statement}
 use Rattle.descriptor.proofs.table.zero_rows.Tie as tie

@@ -9,7 +9,7 @@ use lib.ListN.{length}
 use Rattle.descriptor.specs.Limits.{descriptorLimit, depthLimit}
 use Rattle.descriptor.specs.Tree.{rowCount}
 use Rattle.descriptor.specs.Check.{treeAt, checked}
-use Rattle.descriptor.specs.Steps.{counted}
+use Rattle.descriptor.specs.inner.Steps.{counted}
 use Rattle.descriptor.proofs.Steps.{got, lost, stopped}
 use Rattle.descriptor.proofs.Members.{row-one, whole-read}
 use borrow.Author.Needs.{needs}

@@ -4,7 +4,7 @@ use Prim.Native.Nat.{_-_, _^_, _≤_}
 use native.Mathlib.Omega.{arith}
 use borrow.Author.Needs.{needs}
 use Rattle.number.specs.Endian.{be}
-use Rattle.number.specs.Post.{Bounded}
+use Rattle.number.specs.inner.Post.{Bounded}
 use Rattle.number.proofs.Reading.{byte-more, byte-fits, be-more}
 use Rattle.number.proofs.endian.read_be.Statement.{statement}
 use Rattle.number.proofs.endian.read_be.Tie as tie

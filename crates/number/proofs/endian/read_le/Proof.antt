@@ -4,7 +4,7 @@ use Prim.Native.Nat.{_+_, _-_, _^_, _≤_}
 use native.Mathlib.Omega.{arith}
 use borrow.Author.Needs.{needs}
 use Rattle.number.specs.Endian.{le}
-use Rattle.number.specs.Post.{Bounded}
+use Rattle.number.specs.inner.Post.{Bounded}
 use Rattle.number.proofs.Reading.{byte-more, byte-fits, le-turn}
 use Rattle.number.proofs.endian.read_le.Statement.{statement}
 use Rattle.number.proofs.endian.read_le.Tie as tie

@@ -1,0 +1,4 @@
+pub mod Steps
+pub mod Promises
+pub mod Standing
+pub mod Filling
