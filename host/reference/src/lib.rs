@@ -1,11 +1,25 @@
-//! The descriptor questions of document 01, answered a second time in safe
-//! Rust: descriptor check, compare and normal form. Nothing here allocates, and
-//! only the check fills a table.
+//! The questions of document 01 about a descriptor and its data, answered a
+//! second time in safe Rust: descriptor check, compare and normal form; data
+//! check, view, value, to little-endian and back. Nothing here allocates.
 #![forbid(unsafe_code)]
 
+mod data;
+mod endian;
+mod judge;
 mod kind;
 mod normal;
+mod order;
+mod path;
+mod plan;
+mod reverse;
+mod rows;
+mod shape;
+mod tour;
 mod walk;
+
+pub use data::{MOST_DATA, check_data};
+pub use endian::{from_little_endian, to_little_endian};
+pub use path::{Part, Value, read_value, view};
 
 use normal::Starts;
 use walk::{Refusal, Visitor};
@@ -131,21 +145,27 @@ pub fn normal_form(descriptor: &[u8], out: &mut [u8]) -> Answer {
         Ok(rows) => rows,
         Err(refusal) => return refused(refusal, 1),
     };
-    let place = descriptor.len() as u32;
-    match out.get_mut(..descriptor.len()) {
-        None => Answer {
-            number: 50,
-            input: 4,
-            place,
-        },
-        Some(written) => {
-            normal::write(descriptor, starts.first(rows), written);
-            Answer {
-                number: 0,
-                input: 0,
-                place,
-            }
-        }
+    match room(out, descriptor.len()) {
+        Ok(written) => normal::write(descriptor, starts.first(rows), written),
+        Err(refusal) => return refusal,
+    }
+    accepted(descriptor.len())
+}
+
+/// The front of the output, as long as needed; else 50, input 4.
+fn room(out: &mut [u8], length: usize) -> Result<&mut [u8], Answer> {
+    let refusal = Refusal {
+        number: 50,
+        place: length,
+    };
+    out.get_mut(..length).ok_or(refused(refusal, 4))
+}
+
+fn accepted(place: usize) -> Answer {
+    Answer {
+        number: 0,
+        input: 0,
+        place: place as u32,
     }
 }
 

@@ -122,7 +122,7 @@ pub(crate) fn walk<V: Visitor>(bytes: &[u8], visitor: &mut V) -> Result<usize, R
 }
 
 #[inline(always)]
-fn refuse<T>(number: u32, place: usize) -> Result<T, Refusal> {
+pub(crate) fn refuse<T>(number: u32, place: usize) -> Result<T, Refusal> {
     Err(Refusal { number, place })
 }
 
