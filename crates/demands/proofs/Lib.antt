@@ -12,3 +12,4 @@ pub mod Reading
 pub mod Given
 pub mod Resolved
 pub mod Record
+pub mod Found
