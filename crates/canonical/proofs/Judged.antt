@@ -23,6 +23,7 @@ use Rattle.canonical.specs.Normal.{normalForm}
 use Rattle.canonical.specs.inner.Walk.{Accepted, sameWithin, clearForest}
 use Rattle.canonical.specs.declared.Compared.{Compared}
 use Rattle.canonical.proofs.Lists.{bytes-of, bool-same}
+use Rattle.canonical.proofs.Same.{same-refl}
 use Rattle.canonical.proofs.Whole.{walk-accepts, differ-long, same-long, normal-length, normal-cleared}
 
 -- what the check of s came to: a tree
@@ -62,6 +63,11 @@ module _ (a b : List ℕ) where
 
     pub same-compared : true ≡ comparison a b .equal → bothCompared true ≡ comparison a b
     same-compared e = yes-whole (checked b) (ap (λ (x : Compared). x .equal) (sym answers) ∙ sym e) ∙ sym answers
+
+    -- the same bytes are equal
+    pub same-bytes : a ≡ b → true ≡ comparison a b .equal
+    same-bytes e =
+        sym (ap (λ (x : Compared). x .equal) (answers ∙ ap answer (ap checked (sym e) ∙ first .eq)) ∙ same-refl (first .tree))
 
     -- and so is a no, where the second is accepted
     pub differ-compared : Accepted b → false ≡ comparison a b .equal → bothCompared false ≡ comparison a b

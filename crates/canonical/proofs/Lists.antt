@@ -2,16 +2,15 @@
 use mathlib.Core.Path.{_≡_, refl, sym, ap, _∙_}
 use mathlib.Core.Bool.{Bool, true, false, _&&_}
 use mathlib.Core.List.{List, [], _∷_, _++_}
-use Prim.Native.Nat.{ℕ, suc, _+_, _<_, _≤_}
+use Prim.Native.Nat.{ℕ, zero, suc, _-_, _<_}
+use native.Mathlib.Nat.{sub-zero, zero-sub, suc-sub-suc}
 use native.Mathlib.Omega.{arith}
 use lib.Dec.{eqb}
-use lib.ListN.{length, getD}
-use lib.Seq.{slice-empty}
-use borrow.Author.Tests.{eq-eqb, ne-eqb}
+use lib.ListN.{length, getD, take, drop}
+use lib.Seq.{slice}
+use borrow.Author.Tests.{eq-eqb}
 use Rattle.descriptor.specs.Encoding.{Bytes}
-use Rattle.encoding.proofs.Slices.{slice-more}
 use Rattle.canonical.specs.Equality.{sameList, sameChars}
-use Rattle.canonical.specs.inner.Walk.{sameRun}
 
 -- tests in a row may be grouped either way
 pub and-assoc : (a b c : Bool) → ((a && b) && c) ≡ (a && (b && c))
@@ -44,24 +43,14 @@ unfolding Bytes
 bytes-of [] h = tt
 bytes-of (x ∷ s) h = (h 0, bytes-of s (λ k. h (suc k)))
 
--- runs of a and b
-module _ (a b : List ℕ) where
-  -- no bytes are the same
-  pub run-none : (p : ℕ) → sameRun a b p p ≡ true
-  unfolding sameRun sameList
-  run-none p = rw (slice-empty p b, slice-empty p a)
+-- nothing of nothing
+take-none : (n : ℕ) → _≡_ {A = List ℕ} (take n []) []
+take-none zero = refl
+take-none (suc n) = refl
 
-  -- the first byte and the others
-  run-first : (p q : ℕ) → p < q → q ≤ length a → q ≤ length b → sameRun a b p q ≡ (eqb (getD b p 0) (getD a p 0) && sameRun a b (p + 1) q)
-  unfolding sameRun sameList
-  run-first p q h ha hb = rw (slice-more p q b 0 h hb, slice-more p q a 0 h ha)
-
-  -- where the first differs, so do the runs
-  pub run-stop : (p q : ℕ) → p < q → q ≤ length a → q ≤ length b → (getD a p 0 ≡ getD b p 0 → ⊥) → sameRun a b p q ≡ false
-  run-stop p q h ha hb differ =
-      run-first p q h ha hb ∙ ap (λ (t : Bool). t && sameRun a b (p + 1) q) (ne-eqb (getD b p 0) (getD a p 0) (λ e. differ (sym e)))
-
-  -- and where it is the same, the others decide
-  pub run-on : (p q : ℕ) → p < q → q ≤ length a → q ≤ length b → getD a p 0 ≡ getD b p 0 → sameRun a b p q ≡ sameRun a b (p + 1) q
-  run-on p q h ha hb same =
-      run-first p q h ha hb ∙ ap (λ (t : Bool). t && sameRun a b (p + 1) q) (eq-eqb (getD b p 0) (getD a p 0) (sym same))
+-- a part that is lent, from f up to t, is the slice
+pub part-slice : (f t : ℕ) (l : List ℕ) → take (t - f) (drop f l) ≡ slice f t l
+part-slice zero t l = ap (λ (n : ℕ). take n l) (sub-zero t)
+part-slice (suc f) zero l = ap (λ (n : ℕ). take n (drop (suc f) l)) (zero-sub (suc f))
+part-slice (suc f) (suc t) [] = take-none (suc t - suc f)
+part-slice (suc f) (suc t) (x ∷ l) = ap (λ (n : ℕ). take n (drop f l)) (suc-sub-suc t f) ∙ part-slice f t l

@@ -17,14 +17,7 @@ fn same_run(a: &[u8], b: &[u8], from: usize, to: usize) -> bool
     requires { ⌜ Both (now a) (now b) from to ⌝ }
     ensures { λ r. ⌜ r ≡ sameRun (now (a .entry)) (now (b .entry)) from to ⌝ }
 {
-    let mut i = from;
-    while i < to {
-        if a[i] != b[i] {
-            return false;
-        }
-        i += 1;
-    }
-    true
+    check::same(&a[from..to], &b[from..to])
 }
 
 // Whether a and b hold the same bytes from `start` up to `stop`, but for the reserved bytes of the k descriptors that stand in a from
@@ -64,13 +57,16 @@ fn same_within(a: &[u8], b: &[u8], k: usize, start: usize, stop: usize, levels: 
 }
 
 // Whether b is a descriptor equal to the accepted descriptor a: as long as a, and the same but for the reserved bytes of a. Nothing is
-// asked of b: bytes that are so are a descriptor with a's tree.
+// asked of b: bytes that are so are a descriptor with a's tree. The same bytes are equal at once.
 fn same_as_accepted(a: &[u8], b: &[u8]) -> bool
     requires { ⌜ Accepted (now a) ⌝ }
     ensures { λ r. ⌜ r ≡ comparison (now (a .entry)) (now (b .entry)) .equal ⌝ }
 {
     if a.len() != b.len() {
         return false;
+    }
+    if check::same(a, b) {
+        return true;
     }
     same_within(a, b, 1, 0, a.len(), DEPTH_LIMIT)
 }

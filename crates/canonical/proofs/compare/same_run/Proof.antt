@@ -1,56 +1,56 @@
--- `same_run` compares byte by byte. The invariant: the comparison from here on is that from the start. Assumes nothing.
-use mathlib.Core.Path.{_≡_, refl, sym, ap, _∙_}
-use Prim.Native.Nat.{ℕ, _-_, _≤_}
-use native.Mathlib.Omega.{arith}
+-- `same_run` is the kit's comparison of the two parts. Rests on `Same` and `Lists`.
+use mathlib.Core.Path.{sym, ap, _∙_}
 use denote.Ref.{now}
+use lib.Seq.{slice}
 use borrow.Author.Needs.{needs}
+use Rattle.canonical.specs.Equality.{sameChars}
 use Rattle.canonical.specs.inner.Walk.{sameRun}
-use Rattle.canonical.proofs.Lists.{run-none, run-stop, run-on}
+use Rattle.canonical.proofs.Lists.{bool-same, part-slice}
+use Rattle.canonical.proofs.Same.{chars-same, chars-refl}
 use Rattle.canonical.proofs.compare.same_run.Statement.{statement}
 use Rattle.canonical.proofs.compare.same_run.Tie as tie
 
-abbrev Inv-loop : tie.InvT-loop
-Inv-loop a b from to i₀ i = (i ≤ to) × (sameRun a b from to ≡ sameRun a b i to)
+sub-same : tie.Need-sub-same
+sub-same c = search needs
 
-abbrev μ-loop : tie.MeasureT-loop
-μ-loop a b from to i₀ i = to - i
+part-same-start : tie.Need-part-same-start
+part-same-start c = search needs
 
-loop-holds : tie.Need-loop-holds Inv-loop μ-loop
-loop-holds c = (omega (arith, c .pre .order), refl)
+part-same-end : tie.Need-part-same-end
+part-same-end c = search needs
 
-shared-slice-read-if1 : tie.Need-shared-slice-read-if1 Inv-loop μ-loop
-shared-slice-read-if1 c = omega (arith, c .before .before .before .pre .first)
+sub-same-2 : tie.Need-sub-same-2
+sub-same-2 c = search needs
 
-shared-slice-read-if1-2 : tie.Need-shared-slice-read-if1-2 Inv-loop μ-loop
-shared-slice-read-if1-2 c = omega (arith, c .before .before .before .before .pre .second)
+part-same-start-2 : tie.Need-part-same-start-2
+part-same-start-2 c = search needs
 
-returns : tie.Need-returns Inv-loop μ-loop
-returns c = sym (c .before .before .before .before .loop .inv .1 ∙ run-stop (now (c .before .before .before .before .before .args .a)) (now (c .before .before .before .before .before .args .b)) (c .before .before .before .before .loop .i) (c .before .before .before .before .before .args .to) (c .before .before .before .loop-test .taken) (c .before .before .before .before .before .pre .first) (c .before .before .before .before .before .pre .second) (c .if1 .taken))
+part-same-end-2 : tie.Need-part-same-end-2
+part-same-end-2 c = search needs
 
-add-i : tie.Need-add-i Inv-loop μ-loop
-add-i c = search needs
+same-requires : tie.Need-same-requires
+same-requires c κs = search needs
 
-loop-less : tie.Need-loop-less Inv-loop μ-loop
-loop-less c = search needs
-
-loop-again : tie.Need-loop-again Inv-loop μ-loop
-loop-again c = (omega (arith, c .before .before .before .loop-test .taken), c .before .before .before .before .loop .inv .1 ∙ run-on (now (c .before .before .before .before .before .args .a)) (now (c .before .before .before .before .before .args .b)) (c .before .before .before .before .loop .i) (c .before .before .before .before .before .args .to) (c .before .before .before .loop-test .taken) (c .before .before .before .before .before .pre .first) (c .before .before .before .before .before .pre .second) (c .if1 .left))
-
-returns-2 : tie.Need-returns-2 Inv-loop μ-loop
-returns-2 c = let end : c .before .loop .i ≡ c .before .before .args .to = omega (arith, c .before .loop .inv .0, c .loop-test .left) in
-    sym (c .before .loop .inv .1 ∙ ap (λ (k : ℕ). sameRun (now (c .before .before .args .a)) (now (c .before .before .args .b)) k (c .before .before .args .to)) end ∙ run-none (now (c .before .before .args .a)) (now (c .before .before .args .b)) (c .before .before .args .to))
+returns : tie.Need-returns
+unfolding sameRun
+returns c =
+    let g = c .before .before .before .before .before .args in
+    let x = slice (g .from) (g .to) (now (g .a)) in
+    let y = slice (g .from) (g .to) (now (g .b)) in
+    let ex = part-slice (g .from) (g .to) (now (g .a)) in
+    let ey = part-slice (g .from) (g .to) (now (g .b)) in
+    bool-same (c .same .result) (sameChars y x) (λ e. ap (λ l. sameChars y l) (sym ex ∙ c .same .ensures .0 e ∙ ey) ∙ chars-refl y)
+    (λ e. c .same .ensures .1 (ex ∙ sym (chars-same y x e) ∙ sym ey))
 
 pub same-run-spec : {M : Type 1} → statement M
 same-run-spec =
     tie.close
     (tie.spec
-    Inv-loop
-    μ-loop
-    loop-holds
-    shared-slice-read-if1
-    shared-slice-read-if1-2
-    returns
-    add-i
-    loop-less
-    loop-again
-    returns-2)
+    sub-same
+    part-same-start
+    part-same-end
+    sub-same-2
+    part-same-start-2
+    part-same-end-2
+    same-requires
+    returns)
