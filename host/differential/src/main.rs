@@ -30,26 +30,42 @@ fn main() -> ExitCode {
         }
     };
     let limits = limits::all();
-    let mut tally = Tally::default();
+    let mut all = Tally::default();
+    let (mut passed, mut failed) = (0, 0);
     for &seed in &options.seeds {
-        println!("seed {seed}");
-        for number in options.cases.clone() {
-            if let Err(difference) = run(seed, number, &limits, options.exact, &mut tally) {
-                print_difference(seed, number, &difference);
-                println!("{} passed, 1 failed", tally.cases);
-                return ExitCode::FAILURE;
-            }
+        match run_seed(seed, &options, &limits, &mut all) {
+            true => passed += 1,
+            false => failed += 1,
         }
     }
-    tally.print();
-    let never_met = tally.never_met();
-    if options.gate && !never_met.is_empty() {
-        println!("never met: {never_met:?}");
-        println!("{} passed, {} failed", tally.cases, never_met.len());
-        return ExitCode::FAILURE;
+    all.print();
+    println!("{passed} passed, {failed} failed");
+    match failed {
+        0 => ExitCode::SUCCESS,
+        _ => ExitCode::FAILURE,
     }
-    println!("{} passed, 0 failed", tally.cases);
-    ExitCode::SUCCESS
+}
+
+/// Runs the cases of one seed up to the first difference. It passes if there is
+/// none and, in the gate run, every number was met.
+fn run_seed(seed: u64, options: &Options, limits: &[Limit], all: &mut Tally) -> bool {
+    let mut tally = Tally::default();
+    let mut same = true;
+    for number in options.cases.clone() {
+        if let Err(difference) = run(seed, number, limits, options.exact, &mut tally) {
+            print_difference(seed, number, &difference);
+            same = false;
+            break;
+        }
+    }
+    let never_met = tally.never_met();
+    let met = match never_met.is_empty() {
+        true => "every number met".into(),
+        false => format!("never met: {never_met:?}"),
+    };
+    println!("seed {seed}: {} cases, {met}", tally.cases);
+    all.add(&tally);
+    same && (never_met.is_empty() || !options.gate)
 }
 
 /// Makes one case and holds the two against each other over it.

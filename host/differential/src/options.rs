@@ -4,7 +4,8 @@ use std::hash::{BuildHasher, RandomState};
 use std::ops::Range;
 
 pub const USAGE: &str = "usage: differential [--exact] [--cases N] [--seed S] [--case I]
-  no arguments   the gate run: fixed seeds, then a fresh one
+  no arguments   the gate run: fixed seeds, then a fresh one, each of which must
+                 meet every number
   --cases N      N cases of each seed; the limits come first
   --seed S       this seed alone
   --case I       case I alone, to look at a difference again
@@ -22,7 +23,7 @@ pub struct Options {
     pub seeds: Vec<u64>,
     pub cases: Range<u64>,
     pub exact: bool,
-    /// Whether every number must be met.
+    /// Whether every seed must meet every number.
     pub gate: bool,
 }
 

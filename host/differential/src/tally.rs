@@ -18,6 +18,20 @@ pub struct Tally {
 }
 
 impl Tally {
+    /// Adds what another tally counted.
+    pub fn add(&mut self, other: &Tally) {
+        self.cases += other.cases;
+        for (count, more) in self.kinds.iter_mut().zip(other.kinds) {
+            *count += more;
+        }
+        for (count, more) in self.met.iter_mut().zip(other.met) {
+            *count += more;
+        }
+        self.equal += other.equal;
+        self.unequal += other.unequal;
+        self.not_compared += other.not_compared;
+    }
+
     /// Counts a case by its kind and by the check's number.
     pub fn checked(&mut self, kind: Kind, answer: Answer) {
         self.kinds[kind as usize] += 1;
@@ -55,6 +69,7 @@ impl Tally {
     }
 
     pub fn print(&self) {
+        println!("{:>9}  cases", self.cases);
         for (count, (_, words)) in self.kinds.iter().zip(KINDS) {
             println!("{count:>9}  {words}");
         }
