@@ -9,16 +9,6 @@ pub fn all() -> [Vec<u8>; 3] {
     ]
 }
 
-/// A copy with this value in every reserved byte.
-pub fn with_reserved(bytes: &[u8], value: u8) -> Vec<u8> {
-    let checked = reference::check_descriptor(bytes);
-    let mut copy = bytes.to_vec();
-    for row in &checked.rows[..checked.answer.place as usize] {
-        copy[usize::from(row.start) + 2] = value;
-    }
-    copy
-}
-
 /// A descriptor of a body, children and a name; no name where it is empty.
 fn descriptor(code: u8, body: &[u8], name: &str, children: &[Vec<u8>]) -> Vec<u8> {
     let mut bytes = vec![0, 0, 0, code];

@@ -1,93 +1,61 @@
-//! Times both implementations on the same descriptors in one run. The rounds
+//! Times both implementations on the same inputs in one run. The rounds
 //! alternate and the best of each counts; a copy of the bytes is the floor.
 #![forbid(unsafe_code)]
 
 mod descriptors;
+mod questions;
+mod table;
 mod timing;
+mod variants;
 
-use std::hint::black_box;
-
-use timing::{Times, best_of_both, best_of_one};
-
-const OUT: usize = 4096;
+use table::print_line;
+use timing::Times;
+use variants::{early_difference, late_difference, refused_early, refused_late, with_reserved};
 
 fn main() {
-    let descriptors = descriptors::all();
-    println!(
-        "{:<18} {:>5} {:>6} {:>12} {:>12} {:>7} {:>9}",
-        "question", "rows", "bytes", "kerbcanopy", "reference", "ratio", "copy"
-    );
-    for bytes in &descriptors {
-        print_line("check_descriptor", bytes, check(bytes));
+    let [small, rig, widest] = descriptors::all();
+    let large = [("14 rows", rig), ("256 rows", widest)];
+    table::print_head();
+    let check = questions::check_descriptor;
+    print_line("check_descriptor", "2 rows", &small, check(&small));
+    for (rows, bytes) in &large {
+        print_with_refusals("check_descriptor", rows, bytes, check);
     }
-    for bytes in &descriptors[1..] {
-        print_line("compare", bytes, compare(bytes));
+    for (rows, bytes) in &large {
+        print_comparisons(rows, bytes);
     }
-    for bytes in &descriptors[1..] {
-        print_line("normal_form", bytes, normal_form(bytes));
+    for (rows, bytes) in &large {
+        print_with_refusals("normal_form", rows, bytes, questions::normal_form);
     }
-    println!("times in nanoseconds; ratio is kerbcanopy to reference");
+    table::print_foot();
 }
 
-fn print_line(question: &str, bytes: &[u8], times: Times) {
-    let rows = reference::check_descriptor(bytes).answer.place;
-    println!(
-        "{question:<18} {rows:>5} {:>6} {:>12.1} {:>12.1} {:>7.2} {:>9.1}",
-        bytes.len(),
-        times.first,
-        times.second,
-        times.first / times.second,
-        copy(bytes),
-    );
+/// A question about a descriptor as it is, refused early and refused late.
+fn print_with_refusals(question: &str, rows: &str, bytes: &[u8], ask: impl Fn(&[u8]) -> Times) {
+    print_line(question, rows, bytes, ask(bytes));
+    let early = format!("{rows}, refused early");
+    print_line(question, &early, bytes, ask(&refused_early(bytes)));
+    let late = format!("{rows}, refused late");
+    print_line(question, &late, bytes, ask(&refused_late(bytes)));
 }
 
-fn check(bytes: &[u8]) -> Times {
-    best_of_both(
-        || {
-            black_box(&kerbcanopy::check_descriptor(black_box(bytes)));
-        },
-        || {
-            black_box(&reference::check_descriptor(black_box(bytes)));
-        },
-    )
-}
-
-/// Compares with a copy in which every reserved byte differs.
-fn compare(bytes: &[u8]) -> Times {
-    let other = descriptors::with_reserved(bytes, 0x40);
-    best_of_both(
-        || {
-            black_box(kerbcanopy::compare(black_box(bytes), black_box(&other)));
-        },
-        || {
-            black_box(reference::compare(black_box(bytes), black_box(&other)));
-        },
-    )
-}
-
-fn normal_form(bytes: &[u8]) -> Times {
-    let (mut first, mut second) = ([0; OUT], [0; OUT]);
-    best_of_both(
-        || {
-            black_box(kerbcanopy::normal_form(
-                black_box(bytes),
-                black_box(&mut first),
-            ));
-        },
-        || {
-            black_box(reference::normal_form(
-                black_box(bytes),
-                black_box(&mut second),
-            ));
-        },
-    )
-}
-
-fn copy(bytes: &[u8]) -> f64 {
-    let mut out = [0; OUT];
-    best_of_one(|| {
-        let bytes = black_box(bytes);
-        out[..bytes.len()].copy_from_slice(bytes);
-        black_box(&mut out);
-    })
+/// A descriptor compared with copies of itself.
+fn print_comparisons(rows: &str, bytes: &[u8]) {
+    let print = |case: &str, first: &[u8], second: &[u8]| {
+        let case = format!("{rows}, {case}");
+        print_line("compare", &case, bytes, questions::compare(first, second));
+    };
+    let (early, late) = (refused_early(bytes), late_difference(bytes));
+    for (case, other) in [
+        ("the same bytes", bytes.to_vec()),
+        ("reserved bytes differ", with_reserved(bytes, 0x40)),
+        ("early difference", early_difference(bytes)),
+        ("late difference, reserved too", with_reserved(&late, 0x40)),
+        ("late difference", late),
+        ("second refused late", refused_late(bytes)),
+        ("second refused early", early.clone()),
+    ] {
+        print(case, bytes, &other);
+    }
+    print("first refused early", &early, bytes);
 }

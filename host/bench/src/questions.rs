@@ -1,0 +1,72 @@
+//! Each question put to both implementations, timed once both have given the
+//! same answer.
+
+use std::hint::black_box;
+
+use crate::timing::{Times, best_of_both, best_of_one};
+
+/// Room for every output.
+const OUT: usize = 4096;
+
+pub fn check_descriptor(bytes: &[u8]) -> Times {
+    let proved = kerbcanopy::check_descriptor(bytes).answer;
+    agree(proved, reference::check_descriptor(bytes).answer);
+    best_of_both(
+        || {
+            black_box(&kerbcanopy::check_descriptor(black_box(bytes)));
+        },
+        || {
+            black_box(&reference::check_descriptor(black_box(bytes)));
+        },
+    )
+}
+
+pub fn compare(first: &[u8], second: &[u8]) -> Times {
+    let proved = kerbcanopy::compare(first, second);
+    let other = reference::compare(first, second);
+    agree(proved.answer, other.answer);
+    assert_eq!(proved.equal, other.equal);
+    best_of_both(
+        || {
+            black_box(kerbcanopy::compare(black_box(first), black_box(second)));
+        },
+        || {
+            black_box(reference::compare(black_box(first), black_box(second)));
+        },
+    )
+}
+
+pub fn normal_form(bytes: &[u8]) -> Times {
+    let (mut first, mut second) = ([0; OUT], [0; OUT]);
+    let proved = kerbcanopy::normal_form(bytes, &mut first);
+    agree(proved, reference::normal_form(bytes, &mut second));
+    best_of_both(
+        || {
+            black_box(kerbcanopy::normal_form(
+                black_box(bytes),
+                black_box(&mut first),
+            ));
+        },
+        || {
+            black_box(reference::normal_form(
+                black_box(bytes),
+                black_box(&mut second),
+            ));
+        },
+    )
+}
+
+/// A plain copy of the bytes, the floor for whatever reads them all.
+pub fn copy(bytes: &[u8]) -> f64 {
+    let mut out = [0; OUT];
+    best_of_one(|| {
+        let bytes = black_box(bytes);
+        out[..bytes.len()].copy_from_slice(bytes);
+        black_box(&mut out);
+    })
+}
+
+fn agree(proved: kerbcanopy::Answer, other: reference::Answer) {
+    let proved = [proved.number, proved.input, proved.place];
+    assert_eq!(proved, [other.number, other.input, other.place]);
+}
