@@ -2,6 +2,8 @@ pub mod Accepted
 pub mod Equal
 pub mod Rows
 pub mod Frame
+pub mod Data
+pub mod Turned
 pub mod Shape
 pub mod Pieces
 pub mod Moved

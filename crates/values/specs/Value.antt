@@ -10,7 +10,7 @@ use Rattle.descriptor.specs.Tree.{Name, Pair, empty, items, pairs, text, dimens
 use Rattle.descriptor.specs.Encoding.{Bytes}
 use Rattle.descriptor.specs.Width.{widthOf}
 use Rattle.flattened.specs.Order.{Order, big, little}
-use Rattle.descriptor.specs.Codes.{isComplex}
+use Rattle.descriptor.specs.Codes.{isComplex, booleanCode}
 
 mutual
   pub data Value : Type 0 where
@@ -43,7 +43,7 @@ numberWidth c = cond (isComplex c) (widthOf c / 2) (widthOf c)
 
 -- "A Boolean's byte is 0 for false or 1 for true." Every other number is any that its bytes can say.
 unfoldable pub numberLimit : ℕ → ℕ
-numberLimit c = cond (eqb c 33) 2 (256 ^ numberWidth c)
+numberLimit c = cond (eqb c booleanCode) 2 (256 ^ numberWidth c)
 
 -- each number of the list is below the limit
 unfoldable pub AllBelow : ℕ → List ℕ → Type 0
