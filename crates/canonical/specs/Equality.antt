@@ -24,7 +24,7 @@ sameChars x y = sameList eqb x y
 abbrev pub samePair : Pair → Pair → Bool
 samePair x y = eqb (x .base) (y .base) && eqb (x .exponent) (y .exponent)
 
--- "An empty name is a name and differs from none."
+-- "An empty name (`0000`) is a name and differs from none."
 unfoldable pub sameName : Name → Name → Bool
 sameName unnamed unnamed = true
 sameName (named x) (named y) = sameChars x y

@@ -96,8 +96,8 @@ unfoldable pub AllRight : Forest → Forest → Type 0
 AllRight nil f = Unit {0}
 AllRight (cons t g) f = Right t f × AllRight g f
 
--- "the first such member" of g, counted from j, with its number in document 01's table and its place: "42, 43, 44: member missing; found
--- twice or more; type not equal: reader's member"
+-- "the first such member" of g, counted from j, with its number in document 01's table and its place: 42, 43, 44, "member missing; found
+-- twice or more; type not equal": "reader's member"
 pub data FirstWrong (f : Forest) : ℕ → Forest → ℕ → ℕ → Type 0 where
   missing : {j : ℕ} {t : Tree} {g : Forest} → Missing t f → FirstWrong f j (cons t g) 42 j
   doubled : {j : ℕ} {t : Tree} {g : Forest} → Doubled t f → FirstWrong f j (cons t g) 43 j
@@ -140,7 +140,7 @@ front out xs = record { answer = accepted (length xs); out = xs ++ drop (length 
 pub data Refused (s : List ℕ) (f g : Forest) (out : List ℕ) (answer : Written) : Type 0 where
   -- numbers 42, 43 and 44, input 2
   forMember : {number place : ℕ} → FirstWrong f 0 g number place → answer ≡ unwritten out number 2 place → Refused s f g out answer
-  -- "50: output too small: length needed", input 4
+  -- 50, "output too small": "length needed", input 4
   forRoom : {xs : List ℕ} → AllRight g f → Gets s f g xs → length out < length xs → answer ≡ unwritten out 50 4 (length xs)
       → Refused s f g out answer
 

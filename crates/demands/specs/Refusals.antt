@@ -70,7 +70,7 @@ pub places : (answer (0x00 ∷ 0x08 ∷ 0x00 ∷ 0x50 ∷ 0x00 ∷ 0x01 ∷ 0x00
     × (answer (within 6 (0x00 ∷ 0x06 ∷ 0x00 ∷ 0x03 ∷ 0x02 ∷ 0x61 ∷ [])) ≡ at 11 6)
     -- 0006 0003 0261: 11 at 0
     × (answer (0x00 ∷ 0x06 ∷ 0x00 ∷ 0x03 ∷ 0x02 ∷ 0x61 ∷ []) ≡ at 11 0)
-    -- "12: bytes after the top descriptor: its size"
+    -- 12, "bytes after the top descriptor": "its size"
     × (answer (p1 ++ (0x00 ∷ [])) ≡ at 12 4)
 unfolding be beBytes kindOf childCount countOf itemsSize fieldsSize nameSize treeSize forestSize rowCount forestRows headerAt countAt runAt itemAt itemsAt pairsAt fieldsRead judged contentsAt fillAt filledAt fieldsAt membersAt nameAt nodeAt treeAt checked descriptorCheck answer within nested
 places = (refl, refl, refl, refl, refl, refl, refl, refl, refl, refl, refl, refl, refl, refl, refl)
@@ -120,7 +120,7 @@ unfoldable pub widths : ℕ → ℕ → List ℕ
 widths zero low = []
 widths (suc n) low = widthOf low ∷ widths n (suc low)
 
--- "Carried codes: 01 to 08 .., 09 to 0B .., 0C to 0E .., 15 to 17 .., 19 to 1B and 1C to 1E .., 21, 30, 40, 50", of all 256
+-- "Carried codes: 01 to 08 .., 09 to 0B .., 0C to 0E .., 15 to 17 .., 19 to 1B and 1C to 1E .., 21 .., 30 .., 40 .., 50", of all 256
 pub carried-codes : (kinds 33 0
     ≡ unknown ∷ (replicate 14 plain ++ (replicate 6 unknown ++ (replicate 3 enumeration ++ (unknown ∷ (replicate 6 quantity ++ (unknown ∷ unknown ∷ [])))))))
     × (kinds 223 33

@@ -16,7 +16,7 @@ pub record Written : Type 0 where
 abbrev pub unwritten : List ℕ → ℕ → ℕ → ℕ → Written
 unwritten out number input place = record { answer = refusal number input place; out = out }
 
--- the bytes at the front of the output; the place is "the length written"; "50: output too small: length needed", input 4
+-- the bytes at the front of the output; the place is "the length written"; 50, "output too small": "length needed", input 4
 unfoldable pub writtenTo : List ℕ → List ℕ → Written
 writtenTo out bytes =
     cond (leb (length bytes) (length out))

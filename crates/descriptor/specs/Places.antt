@@ -1,4 +1,4 @@
--- The places of the refusals of a descriptor: "'Start' is the first byte of the descriptor at fault", which stands at p. Each place is
+-- The places of the refusals of a descriptor: the start, "the first byte of the descriptor at fault", which stands at p. Each place is
 -- named by its refusal and told what a place could point at; 2, 3, 4, 6 and 7 have no more than the start.
 use Prim.Native.Nat.{ℕ}
 

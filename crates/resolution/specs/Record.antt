@@ -32,7 +32,7 @@ membersFrom (cons t f) place s at =
     andThen (membersFrom f (place + treeSize t) s next)
     (λ last ms. read last (record { row = rowOf place 2 t; type = t; start = at; stop = next } ∷ ms)))
 
--- "41: rig's top is no cluster", place 0; else its members
+-- 41, "rig's top is no cluster", place 0; else its members
 unfoldable pub writerFields : Fields → Forest → List ℕ → Outcome (List Member)
 writerFields empty f s = refused 41 0
 writerFields (items xs) f s = refused 41 0
@@ -58,7 +58,7 @@ readerNames seen j (cons (node c b f (named [])) g) = refused 40 j
 readerNames seen j (cons (node c b f (named (x ∷ xs))) g) =
     require (not (isAmong (x ∷ xs) seen)) 40 j (readerNames ((x ∷ xs) ∷ seen) (j + 1) g)
 
--- "40: reader's top is no cluster", place 0; else its members, once their names are right
+-- 40, "reader's top is no cluster", place 0; else its members, once their names are right
 unfoldable pub readerFields : Fields → Forest → Outcome Forest
 readerFields empty f = refused 40 0
 readerFields (items xs) f = refused 40 0

@@ -7,6 +7,7 @@ use lib.Dec.{eqb}
 use lib.ListN.{length}
 use Rattle.number.specs.Endian.{beBytes, leBytes}
 use Rattle.descriptor.specs.Tree.{Name, Pair, empty, items, pairs, text, dimensions, members, Tree, node, Forest, nil, cons}
+use Rattle.descriptor.specs.Limits.{lengthLimit}
 use Rattle.descriptor.specs.Encoding.{Bytes}
 use Rattle.descriptor.specs.Width.{widthOf}
 use Rattle.flattened.specs.Order.{Order, big, little}
@@ -66,9 +67,9 @@ mutual
     -- codes 19 to 1E
     quantity : {c : ℕ} {ps : List Pair} {f : Forest} {m : Name} {ns : List ℕ} → Scalar c ns → Fits (node c (pairs ps) f m) (numbers ns)
     -- "A string is a 32-bit length and its characters. .. Lengths and sizes are below 2^31."
-    string : {c : ℕ} {f : Forest} {m : Name} {x : List ℕ} → Bytes x → length x < 2 ^ 31 → Fits (node c text f m) (characters x)
+    string : {c : ℕ} {f : Forest} {m : Name} {x : List ℕ} → Bytes x → length x < lengthLimit → Fits (node c text f m) (characters x)
     -- "An array is one 32-bit size for each dimension, then the elements": as many as the product of the sizes
-    array : {c k : ℕ} {e : Tree} {m : Name} {ns : List ℕ} {vs : Values} → length ns ≡ k → AllBelow (2 ^ 31) ns → count vs ≡ foldr _*_ 1 ns
+    array : {c k : ℕ} {e : Tree} {m : Name} {ns : List ℕ} {vs : Values} → length ns ≡ k → AllBelow lengthLimit ns → count vs ≡ foldr _*_ 1 ns
         → AllFit e vs → Fits (node c (dimensions k) (cons e nil) m) (elements ns vs)
     -- "A cluster is its members in order."
     cluster : {c k : ℕ} {f : Forest} {m : Name} {vs : Values} → EachFits f vs → Fits (node c (members k) f m) (parts vs)
