@@ -2,3 +2,4 @@ pub mod Order
 pub mod Token
 pub mod Walk
 pub mod Answers
+pub mod inner

@@ -7,6 +7,7 @@ ghost use mathlib.Core.Path.{_≡_};
 ghost use Rattle.descriptor.specs.Answers.{descriptorCheck, withTable};
 ghost use Rattle.canonical.specs.Equality.{comparison};
 ghost use Rattle.canonical.specs.Normal.{normalForm};
+ghost use Rattle.flattened.specs.Answers.{dataCheck};
 
 // Reads any bytes as a descriptor. Accepted: number 0, input 0, the place is the row count, and the table has a row for each descriptor
 // in order of first byte, zero rows after them. Refused: the number 1 to 12 that comes first in document 01's order, input 1, the place
@@ -38,4 +39,14 @@ pub extern "C" fn kc_normal_form(descriptor: &[u8], out: &mut [u8]) -> Answer
     ensures wrote { λ _. ⌜ now (out .exit) ≡ normalForm (now (descriptor .entry)) (now (out .entry)) .out ⌝ }
 {
     canonical::normal::normal_form(descriptor, out)
+}
+
+// Reads any bytes as data of the descriptor's type. Accepted: number 0, input 0, and the place is the piece count. Refused: the
+// descriptor's 1 to 12 with input 1; else with input 3 the number 20 to 25 that comes first in document 01's order, and its place: 0 for
+// 20, the first byte left over for 25, for the others the start of the piece at fault.
+#[no_mangle]
+pub extern "C" fn kc_check_data(descriptor: &[u8], data: &[u8]) -> Answer
+    ensures { λ r. ⌜ r ≡ dataCheck (now (descriptor .entry)) (now («data» .entry)) ⌝ }
+{
+    flattened::check::check_data(descriptor, data)
 }

@@ -1,6 +1,8 @@
 // Runs the worked descriptors of document 01 that are not proved, and those of the source documents 002 and 004, through the public
 // entries. A line for each: its name; number, input and place; the rows, as (code start size depth count name_place name_length), the
-// code hexadecimal and the others decimal; and of its normal form, whether it has the same bytes and compares equal.
+// code hexadecimal and the others decimal; and of its normal form, whether it has the same bytes and compares equal. Then data, under a
+// descriptor: its name, number, input and place.
+mod data;
 mod numbers;
 mod show;
 mod sources;
@@ -22,4 +24,6 @@ fn main() {
     numbers::numbers();
     sources::nested();
     sources::listed();
+    data::worked();
+    data::edges();
 }

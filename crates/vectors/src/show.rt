@@ -6,7 +6,7 @@ use descriptor::answer::Row;
 // Room for the normal form of the longest descriptor here.
 const ROOM: usize = 64;
 
-fn say(text: &[u8]) {
+pub fn say(text: &[u8]) {
     io::write_all(1, text);
 }
 
@@ -23,7 +23,7 @@ fn say_number(x: u64) {
     io::print_decimal(1, x);
 }
 
-fn show_answer(a: Answer) {
+pub fn show_answer(a: Answer) {
     say_number(wide32(a.number));
     say_number(wide32(a.input));
     say_number(wide32(a.place));

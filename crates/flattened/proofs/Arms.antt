@@ -1,0 +1,150 @@
+-- The walk, the rule and the extent of a type by the kind of its code. Rests on the definitions, and on how a scalar is judged.
+use mathlib.Core.Path.{_≡_, refl, sym, ap, _∙_}
+use mathlib.Core.Bool.{Bool, true, false, cond}
+use mathlib.Core.List.{List, _∷_}
+use mathlib.Core.Logic.{_⊎_, inl, inr}
+use Prim.Native.Nat.{ℕ, _+_, _*_, _<_, _≤_}
+use native.Mathlib.Omega.{arith}
+use borrow.Author.Tests.{eqb-true}
+use lib.Dec.{eqb}
+use lib.ListN.{length}
+use Rattle.descriptor.specs.Codes.{Kind, plain, enumeration, quantity, string, array, cluster, unknown, kindOf, booleanCode}
+use Rattle.descriptor.specs.Tree.{Name, Fields, empty, items, pairs, text, dimensions, members, Tree, node, Forest, nil, cons, countOf}
+use Rattle.descriptor.specs.Outcome.{Outcome, refused, read, andThen}
+use Rattle.descriptor.specs.Width.{widthOf}
+use Rattle.flattened.specs.Order.{Order}
+use Rattle.flattened.specs.Token.{Token, sizes}
+use Rattle.flattened.specs.Walk.{token, textAt, arrayAt, follow, repeat, walkFields, walk, walkAll}
+use Rattle.flattened.specs.inner.Extent.{isScalar, ruleOf, judges, extentFields, extentOf, extentAll}
+use Rattle.flattened.specs.inner.Arrays.{elementsAt}
+use Rattle.flattened.specs.inner.Types.{fieldsKind}
+use Rattle.flattened.specs.declared.extent.Rule.{Rule}
+use Rattle.flattened.specs.declared.extent.Rule.the-variants.{Any, Below}
+use Rattle.flattened.specs.declared.extent.Extent.{Extent}
+use Rattle.flattened.specs.declared.extent.Extent.the-variants.{Varies, Fixed}
+use Rattle.flattened.proofs.Codes.{isMeasured}
+use Rattle.flattened.proofs.Judged.{ruledAt, scalar-ruled}
+use Rattle.flattened.proofs.Repeats.{follow-last}
+
+-- a kind of numbers and flags is a scalar's
+measured-scalar : (b : Fields) → isMeasured (fieldsKind b) ≡ true → isScalar b ≡ true
+unfolding isMeasured fieldsKind isScalar
+measured-scalar empty e = refl
+measured-scalar (items xs) e = refl
+measured-scalar (pairs ps) e = refl
+measured-scalar text e = e
+measured-scalar (dimensions k) e = e
+measured-scalar (members k) e = e
+
+-- the fields that a kind has
+is-text : (b : Fields) → fieldsKind b ≡ string → b ≡ text
+unfolding fieldsKind
+is-text empty e = cc
+is-text (items xs) e = cc
+is-text (pairs ps) e = cc
+is-text text e = refl
+is-text (dimensions k) e = cc
+is-text (members k) e = cc
+
+is-dimensions : (b : Fields) → fieldsKind b ≡ array → b ≡ dimensions (countOf b)
+unfolding fieldsKind countOf
+is-dimensions empty e = cc
+is-dimensions (items xs) e = cc
+is-dimensions (pairs ps) e = cc
+is-dimensions text e = cc
+is-dimensions (dimensions k) e = refl
+is-dimensions (members k) e = cc
+
+is-members : (b : Fields) → fieldsKind b ≡ cluster → b ≡ members (countOf b)
+unfolding fieldsKind countOf
+is-members empty e = cc
+is-members (items xs) e = cc
+is-members (pairs ps) e = cc
+is-members text e = cc
+is-members (dimensions k) e = cc
+is-members (members k) e = refl
+
+module _ (c : ℕ) (b : Fields) (f : Forest) (m : Name) where
+  module _ (o : Order) (s : List ℕ) (at : ℕ) where
+    -- the walk
+    pub walk-scalar : isMeasured (fieldsKind b) ≡ true → walk o (node c b f m) s at ≡ ruledAt o c s at (ruleOf c b)
+    unfolding walk
+    walk-scalar e = scalar-ruled o c s at b (λ p. walkAll o f s p) (measured-scalar b e)
+
+    pub walk-text : fieldsKind b ≡ string → walk o (node c b f m) s at ≡ textAt o s at
+    unfolding walk walkFields
+    walk-text e = ap (λ (x : Fields). walk o (node c x f m) s at) (is-text b e)
+
+    pub walk-array : fieldsKind b ≡ array → walk o (node c b f m) s at ≡ elementsAt o (countOf b) (λ p. walkAll o f s p) s at
+    unfolding walk walkFields
+    walk-array e = ap (λ (x : Fields). walk o (node c x f m) s at) (is-dimensions b e)
+
+    pub walk-cluster : fieldsKind b ≡ cluster → walk o (node c b f m) s at ≡ walkAll o f s at
+    unfolding walk walkFields
+    walk-cluster e = ap (λ (x : Fields). walk o (node c x f m) s at) (is-members b e)
+
+  -- the extent
+  pub extent-scalar : isMeasured (fieldsKind b) ≡ true → extentOf (node c b f m) ≡ Fixed (widthOf c) 1 (judges (ruleOf c b))
+  unfolding extentOf extentFields isMeasured fieldsKind
+  extent-scalar e = go b e
+    where
+      go : (b : Fields) → isMeasured (fieldsKind b) ≡ true → extentFields c b (extentAll f) ≡ Fixed (widthOf c) 1 (judges (ruleOf c b))
+      go empty e = refl
+      go (items xs) e = refl
+      go (pairs ps) e = refl
+      go text e = cc
+      go (dimensions k) e = cc
+      go (members k) e = cc
+
+  pub extent-text : fieldsKind b ≡ string → extentOf (node c b f m) ≡ Varies
+  unfolding extentOf extentFields
+  extent-text e = ap (λ (x : Fields). extentOf (node c x f m)) (is-text b e)
+
+  pub extent-array : fieldsKind b ≡ array → extentOf (node c b f m) ≡ Varies
+  unfolding extentOf extentFields
+  extent-array e = ap (λ (x : Fields). extentOf (node c x f m)) (is-dimensions b e)
+
+  pub extent-cluster : fieldsKind b ≡ cluster → extentOf (node c b f m) ≡ extentAll f
+  unfolding extentOf extentFields
+  extent-cluster e = ap (λ (x : Fields). extentOf (node c x f m)) (is-members b e)
+
+-- the rule
+pub rule-enumeration : (c : ℕ) (b : Fields) → fieldsKind b ≡ enumeration → ruleOf c b ≡ Below (countOf b) 23
+unfolding fieldsKind ruleOf countOf
+rule-enumeration c empty e = cc
+rule-enumeration c (items xs) e = refl
+rule-enumeration c (pairs ps) e = cc
+rule-enumeration c text e = cc
+rule-enumeration c (dimensions k) e = cc
+rule-enumeration c (members k) e = cc
+
+pub rule-other : (c : ℕ) (b : Fields) → (fieldsKind b ≡ enumeration → ⊥) → ruleOf c b ≡ cond (eqb c booleanCode) (Below 2 24) Any
+unfolding fieldsKind ruleOf
+rule-other c empty h = refl
+rule-other c (items xs) h = absurd (h refl)
+rule-other c (pairs ps) h = refl
+rule-other c text h = refl
+rule-other c (dimensions k) h = refl
+rule-other c (members k) h = refl
+
+-- only an enumeration and a Boolean have a rule
+pub below-kind : (c : ℕ) (b : Fields) (limit number : ℕ) → fieldsKind b ≡ kindOf c → Below limit number ≡ ruleOf c b → (enumeration ≡ kindOf c) ⊎ (c ≡ booleanCode)
+unfolding fieldsKind ruleOf
+below-kind c b limit number k e = go b k e
+  where
+    flag : (t : Bool) → eqb c booleanCode ≡ t → Below limit number ≡ cond t (Below 2 24) Any → (enumeration ≡ kindOf c) ⊎ (c ≡ booleanCode)
+    flag true h e = inr (eqb-true c booleanCode h)
+    flag false h e = absurd (let z : _≡_ {A = ℕ} 0 1 = cc in omega arith)
+
+    go : (b : Fields) → fieldsKind b ≡ kindOf c → Below limit number ≡ ruleOf c b → (enumeration ≡ kindOf c) ⊎ (c ≡ booleanCode)
+    go empty k e = flag (eqb c booleanCode) refl e
+    go (items xs) k e = inl k
+    go (pairs ps) k e = flag (eqb c booleanCode) refl e
+    go text k e = flag (eqb c booleanCode) refl e
+    go (dimensions n) k e = flag (eqb c booleanCode) refl e
+    go (members n) k e = flag (eqb c booleanCode) refl e
+
+-- one type in a row
+pub walk-one : (o : Order) (t : Tree) (s : List ℕ) (at : ℕ) → walkAll o (cons t nil) s at ≡ walk o t s at
+unfolding walkAll
+walk-one o t s at = follow-last (walk o t s at)

@@ -1,0 +1,173 @@
+-- The walk, the rule and the extent of a type that stands in accepted bytes, by what the code reads of it. Rests on what such a type is made of.
+use mathlib.Core.Path.{_≡_, refl, sym, ap, subst, _∙_}
+use mathlib.Core.Bool.{Bool, true, false, cond}
+use mathlib.Core.List.{List}
+use mathlib.Core.Logic.{_⊎_, ⊎-elim}
+use Prim.Native.Nat.{ℕ, _+_, _-_, _<_, _≤_}
+use native.Mathlib.Omega.{arith}
+use borrow.Author.Tests.{eq-eqb, ne-eqb}
+use lib.Dec.{eqb}
+use lib.ListN.{length}
+use Rattle.descriptor.specs.Codes.{Kind, plain, enumeration, quantity, string, array, cluster, unknown, kindOf, booleanCode}
+use Rattle.descriptor.specs.Header.{codeIn}
+use Rattle.descriptor.specs.Tree.{Name, Fields, empty, items, pairs, text, dimensions, members, Tree, node, Forest, countOf, childCount, insideAt}
+use Rattle.descriptor.specs.Width.{widthOf}
+use Rattle.descriptor.specs.inner.Standing.{contentsStart, insideOf, Stands}
+use Rattle.descriptor.specs.declared.inside.Inside.{Inside}
+use Rattle.flattened.specs.Order.{Order}
+use Rattle.flattened.specs.Walk.{walk}
+use Rattle.flattened.specs.inner.Order.{Narrow}
+use Rattle.flattened.specs.inner.Types.{typeAt, typesAt, TypeStands, RowStands, fieldsKind}
+use Rattle.flattened.specs.inner.Extent.{ruleOf, typeRule, judges, extentFields, extentOf, extentAll}
+use Rattle.flattened.specs.declared.extent.Rule.{Rule}
+use Rattle.flattened.specs.declared.extent.Rule.the-variants.{Any, Below}
+use Rattle.flattened.specs.declared.extent.Extent.the-variants.{Varies, Fixed}
+use Rattle.flattened.proofs.Codes.{isMeasured, some-width, no-width, enumeration-narrow, boolean-narrow}
+use Rattle.flattened.proofs.Judged.{ruledAt}
+use Rattle.flattened.proofs.Arms.{walk-scalar, rule-enumeration, rule-other, below-kind, extent-scalar, extent-cluster}
+use Rattle.flattened.proofs.Types.{TypeMade, type-made, type-inside}
+
+-- whether descriptors stand in bodies of the kind
+unfoldable pub hasInside : Kind → Bool
+hasInside plain = false
+hasInside enumeration = false
+hasInside quantity = false
+hasInside string = false
+hasInside array = true
+hasInside cluster = true
+hasInside unknown = false
+
+-- they start right after the fields
+start-same : (p : ℕ) (b : Fields) → hasInside (fieldsKind b) ≡ true → contentsStart p b ≡ insideAt p b
+unfolding hasInside fieldsKind contentsStart
+start-same p empty e = cc
+start-same p (items xs) e = cc
+start-same p (pairs ps) e = cc
+start-same p text e = cc
+start-same p (dimensions k) e = refl
+start-same p (members k) e = refl
+
+-- fields that are no scalar's, no string's and no array's
+rest-members : (b : Fields) → isMeasured (fieldsKind b) ≡ false → (string ≡ fieldsKind b → ⊥) → (array ≡ fieldsKind b → ⊥) → cluster ≡ fieldsKind b
+unfolding isMeasured fieldsKind
+rest-members empty e s a = cc
+rest-members (items xs) e s a = cc
+rest-members (pairs ps) e s a = cc
+rest-members text e s a = absurd (s refl)
+rest-members (dimensions k) e s a = absurd (a refl)
+rest-members (members k) e s a = refl
+
+-- fields that are no scalar's and no cluster's have no extent
+rest-varies : (c : ℕ) (b : Fields) (f : Forest) (m : Name) → isMeasured (fieldsKind b) ≡ false → (cluster ≡ fieldsKind b → ⊥)
+    → extentOf (node c b f m) ≡ Varies
+unfolding isMeasured fieldsKind extentOf extentFields
+rest-varies c empty f m e h = cc
+rest-varies c (items xs) f m e h = cc
+rest-varies c (pairs ps) f m e h = cc
+rest-varies c text f m e h = refl
+rest-varies c (dimensions k) f m e h = refl
+rest-varies c (members k) f m e h = absurd (h refl)
+
+module _ (d : List ℕ) (p : ℕ) (here : Stands d p) where
+  abbrev pub it : TypeMade d p
+  it = type-made d p here
+
+  -- the rule of the fields, by the code that was read
+  ruled : typeRule (typeAt d p) ≡ ruleOf (codeIn d p) (it .fields)
+  unfolding typeRule
+  ruled = ap typeRule (it .tree) ∙ ap (λ (c : ℕ). ruleOf c (it .fields)) (it .coded)
+
+  pub rule-items : enumeration ≡ kindOf (codeIn d p) → (i : Inside) → i ≡ insideOf d p → Below (i .count) 23 ≡ typeRule (typeAt d p)
+  rule-items k i e =
+      ap (λ (x : Inside). Below (x .count) 23) (e ∙ it .inside)
+      ∙ sym (rule-enumeration (codeIn d p) (it .fields) (it .kind ∙ sym k))
+      ∙ sym ruled
+
+  module _ (other : enumeration ≡ kindOf (codeIn d p) → ⊥) where
+    plainly : ruleOf (codeIn d p) (it .fields) ≡ cond (eqb (codeIn d p) booleanCode) (Below 2 24) Any
+    plainly = rule-other (codeIn d p) (it .fields) (λ e. other (sym e ∙ it .kind))
+
+    pub rule-flag : codeIn d p ≡ booleanCode → Below 2 24 ≡ typeRule (typeAt d p)
+    rule-flag e = sym (ruled ∙ plainly ∙ simp (eq-eqb (codeIn d p) booleanCode e))
+
+    pub rule-any : (codeIn d p ≡ booleanCode → ⊥) → Any ≡ typeRule (typeAt d p)
+    rule-any h = sym (ruled ∙ plainly ∙ simp (ne-eqb (codeIn d p) booleanCode h))
+
+  -- a code that has a width is a scalar's
+  pub is-measured : 0 < widthOf (codeIn d p) → isMeasured (fieldsKind (it .fields)) ≡ true
+  is-measured h = go (isMeasured (kindOf (codeIn d p))) refl
+    where
+      go : (b : Bool) → isMeasured (kindOf (codeIn d p)) ≡ b → isMeasured (fieldsKind (it .fields)) ≡ true
+      go true e = ap isMeasured (it .kind) ∙ e
+      go false e = absurd (omega (arith, no-width (codeIn d p) e))
+
+  pub extent-number : 0 < widthOf (codeIn d p) → Fixed (widthOf (codeIn d p)) 1 (judges (typeRule (typeAt d p))) ≡ extentOf (typeAt d p)
+  extent-number h =
+      ap (λ (r : Rule). Fixed (widthOf (codeIn d p)) 1 (judges r)) ruled
+      ∙ ap (λ (c : ℕ). Fixed (widthOf c) 1 (judges (ruleOf c (it .fields)))) (sym (it .coded))
+      ∙ sym (ap extentOf (it .tree) ∙ extent-scalar (it .code) (it .fields) (it .inner) (it .name) (is-measured h))
+
+  -- the walk of a scalar, by its rule
+  pub walk-number : 0 < widthOf (codeIn d p) → (o : Order) (s : List ℕ) (at : ℕ)
+      → walk o (typeAt d p) s at ≡ ruledAt o (codeIn d p) s at (typeRule (typeAt d p))
+  walk-number h o s at =
+      ap (λ (t : Tree). walk o t s at) (it .tree)
+      ∙ walk-scalar (it .code) (it .fields) (it .inner) (it .name) o s at (is-measured h)
+      ∙ ap (λ (c : ℕ). ruledAt o c s at (ruleOf c (it .fields))) (it .coded)
+      ∙ ap (λ (r : Rule). ruledAt o (codeIn d p) s at r) (sym ruled)
+
+  -- a type that has a rule is a scalar, of one, two or four bytes
+  module _ (limit number : ℕ) (rule : Below limit number ≡ typeRule (typeAt d p)) where
+    which : (enumeration ≡ kindOf (codeIn d p)) ⊎ (codeIn d p ≡ booleanCode)
+    which = below-kind (codeIn d p) (it .fields) limit number (it .kind) (rule ∙ ruled)
+
+    pub rule-width : 0 < widthOf (codeIn d p)
+    unfolding kindOf isMeasured
+    rule-width =
+        ⊎-elim (λ e. some-width (codeIn d p) (sym (ap isMeasured e))) (λ e. some-width (codeIn d p) (ap (λ (c : ℕ). isMeasured (kindOf c)) e)) which
+
+    pub rule-narrow : Narrow (widthOf (codeIn d p))
+    rule-narrow = ⊎-elim (λ e. enumeration-narrow (codeIn d p) (sym e)) (λ e. boolean-narrow (codeIn d p) e) which
+
+  -- a code without a width is none's
+  not-measured : widthOf (codeIn d p) ≡ 0 → isMeasured (fieldsKind (it .fields)) ≡ false
+  not-measured e = go (isMeasured (kindOf (codeIn d p))) refl
+    where
+      go : (b : Bool) → isMeasured (kindOf (codeIn d p)) ≡ b → isMeasured (fieldsKind (it .fields)) ≡ false
+      go true h = absurd (omega (arith, some-width (codeIn d p) h))
+      go false h = ap isMeasured (it .kind) ∙ h
+
+  -- it is a cluster where it is no string and no array
+  pub is-cluster : widthOf (codeIn d p) ≡ 0 → (string ≡ kindOf (codeIn d p) → ⊥) → (array ≡ kindOf (codeIn d p) → ⊥) → cluster ≡ kindOf (codeIn d p)
+  is-cluster e s a = rest-members (it .fields) (not-measured e) (λ h. s (h ∙ it .kind)) (λ h. a (h ∙ it .kind)) ∙ it .kind
+
+  pub extent-other : widthOf (codeIn d p) ≡ 0 → (cluster ≡ kindOf (codeIn d p) → ⊥) → Varies ≡ extentOf (typeAt d p)
+  extent-other e h =
+      sym (ap extentOf (it .tree) ∙ rest-varies (it .code) (it .fields) (it .inner) (it .name) (not-measured e) (λ k. h (k ∙ it .kind)))
+
+  -- what stands inside, where descriptors do, as the code reads it
+  module _ (i : Inside) (read : i ≡ insideOf d p) where
+    children : i .children ≡ childCount (it .fields)
+    children = ap (λ (x : Inside). x .children) (read ∙ it .inside)
+
+    pub counted-inside : i .count ≡ countOf (it .fields)
+    counted-inside = ap (λ (x : Inside). x .count) (read ∙ it .inside)
+
+    module _ (has : hasInside (kindOf (codeIn d p)) ≡ true) where
+      start : i .at ≡ insideAt p (it .fields)
+      start = ap (λ (x : Inside). x .at) (read ∙ it .inside) ∙ start-same p (it .fields) (ap hasInside (it .kind) ∙ has)
+
+      pub types-inside : typesAt d (i .children) (i .at) ≡ it .inner
+      types-inside = (λ j. typesAt d (children j) (start j)) ∙ it .types
+
+    pub extent-members : cluster ≡ kindOf (codeIn d p) → extentAll (typesAt d (i .children) (i .at)) ≡ extentOf (typeAt d p)
+    unfolding hasInside
+    extent-members k =
+        ap extentAll (types-inside (sym (ap hasInside k)))
+        ∙ sym (ap extentOf (it .tree) ∙ extent-cluster (it .code) (it .fields) (it .inner) (it .name) (it .kind ∙ sym k))
+
+-- the types inside a type have the levels that it leaves
+pub row-inside : (d : List ℕ) (p left : ℕ) (type : TypeStands d p left) (i : Inside) → i ≡ insideOf d p → hasInside (kindOf (codeIn d p)) ≡ true
+    → RowStands d (i .children) (i .at) (left - 1)
+row-inside d p left type i e has =
+    rw (children d p (type .here) i e, start d p (type .here) i e has) (type-inside d p left type)

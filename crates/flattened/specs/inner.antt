@@ -1,0 +1,9 @@
+pub mod Order
+pub mod Cursor
+pub mod Progress
+pub mod Sizes
+pub mod Extent
+pub mod Types
+pub mod Largest
+pub mod Arrays
+pub mod Checks

@@ -1,0 +1,73 @@
+-- What a type takes in data where no value of it takes more or less, and how the numbers of a scalar are judged.
+use mathlib.Core.Path.{_≡_}
+use mathlib.Core.Bool.{Bool, true, false, cond, _||_}
+use mathlib.Core.List.{List}
+use Prim.Native.Nat.{ℕ, _+_, _*_, _≤_, _<_}
+use lib.Dec.{ltb, eqb}
+use lib.ListN.{length}
+use Rattle.descriptor.specs.Codes.{booleanCode}
+use Rattle.descriptor.specs.Tree.{Fields, empty, items, pairs, text, dimensions, members, Tree, node, Forest, nil, cons}
+use Rattle.descriptor.specs.Width.{widthOf}
+use Rattle.flattened.specs.declared.extent.Rule.{Rule}
+use Rattle.flattened.specs.declared.extent.Rule.the-variants.{Any, Below}
+use Rattle.flattened.specs.declared.extent.Extent.{Extent}
+use Rattle.flattened.specs.declared.extent.Extent.the-variants.{Varies, Fixed}
+
+-- whether a type of these fields is one number or flag
+unfoldable pub isScalar : Fields → Bool
+isScalar empty = true
+isScalar (items xs) = true
+isScalar (pairs ps) = true
+isScalar text = false
+isScalar (dimensions k) = false
+isScalar (members k) = false
+
+-- "An enumeration's number is below its item count (H). A Boolean's byte is 0 for false or 1 for true."
+unfoldable pub ruleOf : ℕ → Fields → Rule
+ruleOf c empty = cond (eqb c booleanCode) (Below 2 24) Any
+ruleOf c (items xs) = Below (length xs) 23
+ruleOf c (pairs ps) = cond (eqb c booleanCode) (Below 2 24) Any
+ruleOf c text = cond (eqb c booleanCode) (Below 2 24) Any
+ruleOf c (dimensions k) = cond (eqb c booleanCode) (Below 2 24) Any
+ruleOf c (members k) = cond (eqb c booleanCode) (Below 2 24) Any
+
+unfoldable pub typeRule : Tree → Rule
+typeRule (node c b f m) = ruleOf c b
+
+-- whether a rule refuses any number
+unfoldable pub judges : Rule → Bool
+judges Any = false
+judges (Below limit number) = true
+
+-- whether the number v keeps the rule
+unfoldable pub keeps : Rule → ℕ → Bool
+keeps Any v = true
+keeps (Below limit number) v = ltb v limit
+
+-- the number of the refusal
+unfoldable pub refusedBy : Rule → ℕ
+refusedBy Any = 24
+refusedBy (Below limit number) = number
+
+-- one extent and then another
+unfoldable pub joint : Extent → Extent → Extent
+joint Varies y = Varies
+joint (Fixed w k j) Varies = Varies
+joint (Fixed w k j) (Fixed v n i) = Fixed (w + v) (k + n) (j || i)
+
+-- by a type's code and fields; `inside` is the extent of the descriptors in it
+unfoldable pub extentFields : ℕ → Fields → Extent → Extent
+extentFields c empty inside = Fixed (widthOf c) 1 (judges (ruleOf c empty))
+extentFields c (items xs) inside = Fixed (widthOf c) 1 (judges (ruleOf c (items xs)))
+extentFields c (pairs ps) inside = Fixed (widthOf c) 1 (judges (ruleOf c (pairs ps)))
+extentFields c text inside = Varies
+extentFields c (dimensions k) inside = Varies
+extentFields c (members k) inside = inside
+
+unfoldable mutual
+  pub extentOf : Tree → Extent
+  extentOf (node c b f m) = extentFields c b (extentAll f)
+
+  pub extentAll : Forest → Extent
+  extentAll nil = Fixed 0 0 false
+  extentAll (cons t f) = joint (extentOf t) (extentAll f)

@@ -1,0 +1,152 @@
+// The front of an array: its size words, and the elements that are passed in one step.
+use super::cursor::Cursor;
+use super::extent::Extent;
+use super::extent::Rule;
+use super::extent::extent_of;
+use super::extent::rule_of;
+use super::largest::largest;
+use super::order::Order;
+use super::progress::Progress;
+use super::sizes::Sizes;
+use super::sizes::size_words;
+use descriptor::header::code_at;
+use descriptor::width::width;
+ghost use mathlib.Core.Path.{_≡_};
+ghost use Prim.Native.Nat.{_+_, _*_, _/_, _^_, _≤_, _<_, min};
+ghost use lib.ListN.{length};
+ghost use Rattle.descriptor.specs.Limits.{dataLimit, dimensionLimit};
+ghost use Rattle.descriptor.specs.Header.{codeIn};
+ghost use Rattle.descriptor.specs.Width.{widthOf};
+ghost use Rattle.descriptor.specs.inner.Standing.{Stands};
+ghost use Rattle.flattened.specs.inner.Order.{orderOf};
+ghost use Rattle.flattened.specs.inner.Extent.{typeRule};
+ghost use Rattle.flattened.specs.inner.Types.{typeAt, TypeStands, DataAt};
+ghost use Rattle.flattened.specs.inner.Largest.{largest};
+ghost use Rattle.flattened.specs.inner.Arrays.{allKeep, Passes, FrontMet};
+
+// How many elements are passed in one step, and their bytes and tokens.
+pub struct Passed {
+    pub count: usize,
+    pub bytes: usize,
+    pub tokens: usize,
+}
+
+// What the front of an array comes to: nothing is left to walk; or so many elements are, from the cursor on, and so many tokens went
+// before them.
+pub enum Front {
+    Over(Progress),
+    Rest(usize, Cursor, usize),
+}
+
+// How many of n elements of w bytes fit into `room` bytes.
+fn fitting(n: usize, w: usize, room: usize) -> usize
+    requires { ⌜ (0 < w) × (w < 2 ^ 40) × (room ≤ dataLimit) ⌝ }
+    ensures { λ r. ⌜ r ≡ min n (room / w) ⌝ }
+{
+    if n <= room {
+        if n * w <= room {
+            return n;
+        }
+    }
+    room / w
+}
+
+// Whether n scalars of the type at p, of w bytes each, all keep its rule, by the largest of their numbers.
+fn all_keep(d: &[u8], p: usize, w: usize, n: usize, s: &[u8], at: usize, o: Order) -> bool
+    requires { ⌜ Stands (now d) p ⌝ }
+    requires { ⌜ w ≡ widthOf (codeIn (now d) p) ⌝ }
+    requires { ⌜ at + n * w ≤ length (now s) ⌝ }
+    ensures { λ r. ⌜ r ≡ allKeep (typeRule (typeAt (now (d .entry)) p)) (largest (orderOf o) (now (s .entry)) w at n) ⌝ }
+{
+    let rule = rule_of(d, p);
+    match rule {
+        Rule::Any => true,
+        Rule::Below(limit, number) => largest(s, at, w, n, o) < limit,
+    }
+}
+
+fn none_passed() -> Passed
+    ensures { λ r. ⌜ r ≡ record { count = 0; bytes = 0; tokens = 0 } ⌝ }
+{
+    Passed {
+        count: 0,
+        bytes: 0,
+        tokens: 0,
+    }
+}
+
+// How many of the first of n scalars of the type at p, of w bytes each, are passed in one step: those that fit, where none is refused.
+fn pass_scalars(d: &[u8], p: usize, w: usize, n: usize, s: &[u8], at: usize, o: Order) -> Passed
+    requires { ⌜ Stands (now d) p ⌝ }
+    requires { ⌜ (w ≡ widthOf (codeIn (now d) p)) × (0 < w) ⌝ }
+    requires { ⌜ DataAt (now s) at ⌝ }
+    ensures { λ r. ⌜ Passes (orderOf o) (typeAt (now (d .entry)) p) (now (s .entry)) n at r ⌝ }
+{
+    let count = fitting(n, w, s.len() - at);
+    if !all_keep(d, p, w, count, s, at, o) {
+        return none_passed();
+    }
+    Passed {
+        count,
+        bytes: count * w,
+        tokens: count,
+    }
+}
+
+// How many of the first of n elements of the type at p are passed in one step: scalars where none is refused, and others where their
+// extent is fixed and nothing in them is judged.
+fn pass(d: &[u8], p: usize, n: usize, s: &[u8], at: usize, o: Order, left: usize) -> Passed
+    requires { ⌜ TypeStands (now d) p left ⌝ }
+    requires { ⌜ DataAt (now s) at ⌝ }
+    ensures { λ r. ⌜ Passes (orderOf o) (typeAt (now (d .entry)) p) (now (s .entry)) n at r ⌝ }
+{
+    let scalar = width(code_at(d, p));
+    if scalar != 0 {
+        return pass_scalars(d, p, scalar, n, s, at, o);
+    }
+    let extent = extent_of(d, p, left);
+    let Extent::Fixed(w, tokens, judged) = extent else {
+        return none_passed();
+    };
+    if judged {
+        return none_passed();
+    }
+    let count = fitting(n, w, s.len() - at);
+    Passed {
+        count,
+        bytes: count * w,
+        tokens: count * tokens,
+    }
+}
+
+// The front of the array whose elements are of the type at p.
+pub fn array_front(
+    d: &[u8],
+    p: usize,
+    dims: usize,
+    s: &[u8],
+    from: Cursor,
+    o: Order,
+    left: usize,
+) -> Front
+    requires { ⌜ TypeStands (now d) p left ⌝ }
+    requires { ⌜ (1 ≤ dims) × (dims ≤ dimensionLimit) ⌝ }
+    requires { ⌜ DataAt (now s) (from .at) ⌝ }
+    ensures { λ r. ⌜ FrontMet (orderOf o) dims (typeAt (now (d .entry)) p) (now (s .entry)) (from .at) r ⌝ }
+{
+    let sizes = size_words(s, from, dims, o);
+    match sizes {
+        Sizes::Refused(number, place) => Front::Over(Progress::Refused(number, place)),
+        Sizes::Count(n, elements) => {
+            let start = elements.at;
+            let passed = pass(d, p, n, s, start, o, left);
+            let next = Cursor {
+                at: start + passed.bytes,
+            };
+            if passed.count == n {
+                return Front::Over(Progress::Walked(next, 1 + passed.tokens));
+            }
+            Front::Rest(n - passed.count, next, 1 + passed.tokens)
+        }
+    }
+}
