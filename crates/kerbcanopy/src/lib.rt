@@ -8,6 +8,7 @@ ghost use Rattle.descriptor.specs.Answers.{descriptorCheck, withTable};
 ghost use Rattle.canonical.specs.Equality.{comparison};
 ghost use Rattle.canonical.specs.Normal.{normalForm};
 ghost use Rattle.flattened.specs.Answers.{dataCheck};
+ghost use Rattle.byteorder.specs.Reversal.{toLittleEndian, fromLittleEndian};
 
 // Reads any bytes as a descriptor. Accepted: number 0, input 0, the place is the row count, and the table has a row for each descriptor
 // in order of first byte, zero rows after them. Refused: the number 1 to 12 that comes first in document 01's order, input 1, the place
@@ -49,4 +50,25 @@ pub extern "C" fn kc_check_data(descriptor: &[u8], data: &[u8]) -> Answer
     ensures { λ r. ⌜ r ≡ dataCheck (now (descriptor .entry)) (now («data» .entry)) ⌝ }
 {
     flattened::check::check_data(descriptor, data)
+}
+
+// Writes the little-endian form of the data to the front of `out`, "the same layout with the bytes of each number reversed in place", and
+// keeps the bytes of `out` beyond it. Accepted: number 0, input 0, and the place is the length written, that of the data. Refused: as by
+// the data check; else 50 with input 4 where `out` is shorter than the data, the place being the length needed. A refusal writes nothing.
+#[no_mangle]
+pub extern "C" fn kc_to_little_endian(descriptor: &[u8], data: &[u8], out: &mut [u8]) -> Answer
+    ensures answer { λ r. ⌜ r ≡ toLittleEndian (now (descriptor .entry)) (now («data» .entry)) (now (out .entry)) .answer ⌝ }
+    ensures wrote { λ _. ⌜ now (out .exit) ≡ toLittleEndian (now (descriptor .entry)) (now («data» .entry)) (now (out .entry)) .out ⌝ }
+{
+    byteorder::little::to_little_endian(descriptor, data, out)
+}
+
+// Writes the data whose little-endian form `data` is to the front of `out`. Its refusals are those of the data check with lengths, sizes
+// and enumerations read little-endian; the rest is as for the form.
+#[no_mangle]
+pub extern "C" fn kc_from_little_endian(descriptor: &[u8], data: &[u8], out: &mut [u8]) -> Answer
+    ensures answer { λ r. ⌜ r ≡ fromLittleEndian (now (descriptor .entry)) (now («data» .entry)) (now (out .entry)) .answer ⌝ }
+    ensures wrote { λ _. ⌜ now (out .exit) ≡ fromLittleEndian (now (descriptor .entry)) (now («data» .entry)) (now (out .entry)) .out ⌝ }
+{
+    byteorder::little::from_little_endian(descriptor, data, out)
 }

@@ -1,0 +1,41 @@
+-- What the loop over numbers of one width keeps: with those that are left, the output becomes what is promised. Over the width.
+use mathlib.Core.Path.{_≡_, refl, sym, ap, ap₂, _∙_}
+use mathlib.Core.List.{List}
+use Prim.Native.Nat.{ℕ, zero, suc, _+_, _-_, _*_, _<_, _≤_}
+use native.Mathlib.Nat.{sub-zero, suc-mul}
+use native.Mathlib.Omega.{arith}
+use lib.ListN.{length, take, drop}
+use mathlib.Core.List.{reverse}
+use lib.Seq.{length-sets}
+use Rattle.byteorder.specs.inner.Turning.{turnedAt, turnedRun}
+
+module _ (w : ℕ) (s before : List ℕ) (n from : ℕ) where
+  -- i of the n numbers have been turned
+  pub record RunLoop (out : List ℕ) (i : ℕ) : Type 0 where
+    pub most : i ≤ n
+    pub long : length out ≡ length before
+    pub same : turnedRun w s (n - i) (from + i * w) out ≡ turnedRun w s n from before
+
+  pub run-begin : RunLoop before 0
+  run-begin =
+      let here : from + 0 * w ≡ from = omega arith in
+      record { most = omega arith; long = refl; same = ap₂ (λ (k p : ℕ). turnedRun w s k p before) (sub-zero n) here }
+
+  module _ (out : List ℕ) (i : ℕ) (loop : RunLoop out i) where
+    pub run-next : i < n → (after : List ℕ) → after ≡ turnedAt w s (from + i * w) out → RunLoop after (i + 1)
+    unfolding turnedRun
+    run-next more after e =
+        let left : n - i ≡ suc (n - (i + 1)) = omega arith in
+        let next : from + (i + 1) * w ≡ from + i * w + w = omega (arith, suc-mul i w) in
+        record {
+          most = omega arith;
+          long = ap length e ∙ length-sets out (from + i * w) (reverse (take w (drop (from + i * w) s))) ∙ loop .long;
+          same =
+              ap₂ (λ (p : ℕ) (x : List ℕ). turnedRun w s (n - (i + 1)) p x) next e
+              ∙ sym (ap (λ (k : ℕ). turnedRun w s k (from + i * w) out) left)
+              ∙ loop .same;
+        }
+
+    pub run-end : n ≤ i → out ≡ turnedRun w s n from before
+    unfolding turnedRun
+    run-end done = let none : n - i ≡ 0 = omega arith in sym (ap (λ (k : ℕ). turnedRun w s k (from + i * w) out) none) ∙ loop .same
