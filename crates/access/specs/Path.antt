@@ -4,6 +4,7 @@ use mathlib.Core.List.{List, [], _∷_}
 use Prim.Native.Nat.{ℕ, zero, suc, _+_, _-_}
 use lib.Dec.{ltb}
 use lib.Seq.{slice}
+use denote.Ref.{RefT, ptr}
 use Rattle.descriptor.specs.Tree.{Fields, empty, items, pairs, text, dimensions, members, Tree, node, Forest, nil, cons}
 use Rattle.descriptor.specs.Outcome.{Outcome, refused, read, andThen, require, judge}
 use Rattle.descriptor.specs.Check.{checked}
@@ -23,7 +24,7 @@ memberAt i nil k s at = refused 30 i
 memberAt i (cons t f) zero s at = read at (record { type = t; start = at })
 memberAt i (cons t f) (suc k) s at = andThen (walk big t s at) (λ next _. memberAt i f k s next)
 
--- one step into a type of these fields and children: "30: step out of range, or on a type without parts"
+-- one step into a type of these fields and children: 30, "step out of range, or on a type without parts"
 unfoldable pub stepAt : ℕ → Fields → Forest → ℕ → List ℕ → ℕ → Outcome Spot
 stepAt i empty f k s at = refused 30 i
 stepAt i (items xs) f k s at = refused 30 i
@@ -46,7 +47,7 @@ spotAt (k ∷ ks) i s x = andThen (stepInto i (x .type) k s (x .start)) (λ _ y.
 abbrev pub spotOf : List ℕ → Tree → List ℕ → Outcome Spot
 spotOf path t s = spotAt path 0 s (record { type = t; start = 0 })
 
--- "A refusal gives .. an empty part at the front of the data"
+-- a refusal gives "an empty part at the front of the data"
 abbrev pub noPart : ℕ → ℕ → ℕ → Part
 noPart number input place = record { answer = refusal number input place; start = 0; length = 0 }
 
@@ -67,3 +68,7 @@ located d s path =
 -- the bytes that `view` hands out
 abbrev pub viewed : List ℕ → List ℕ → List ℕ → List ℕ
 viewed d s path = slice (located d s path .start) (located d s path .start + located d s path .length) s
+
+-- byte `start` of lent bytes: their block, and so many bytes on
+abbrev pub placeIn : RefT (List ℕ) → ℕ → ℕ × ℕ
+placeIn x start = (ptr x .0, ptr x .1 + start)

@@ -62,7 +62,7 @@ codeOf (node c b f m) = c
 abbrev pub valueAt : List ℕ → Spot → Value
 valueAt s x = valueOf (codeOf (x .type)) (be s (x .start) (widthOf (codeOf (x .type))))
 
--- "31: no single number there (string, array, cluster, extended, complex)", place 0
+-- 31, "no single number there (string, array, cluster, extended, complex)", place 0
 unfoldable pub numberOf : List ℕ → Spot → Outcome Value
 numberOf s x = require (isValue (valueAt s x)) 31 0 (read (x .start) (valueAt s x))
 
@@ -78,16 +78,16 @@ readValue d s path =
     judge noValue 3 (walked big t s)
     (λ _. judge noValue 4 (andThen (spotOf path t s) (λ _ x. numberOf s x)) (λ v. record { answer = accepted 0; value = v })))
 
--- a value's kind for callers in C: "0 no value, 1 unsigned, 2 signed, 3 single, 4 double, 5 flag"
-unfoldable pub kindNumber : Value → ℕ
-kindNumber Nothing = 0
-kindNumber (Unsigned n) = 1
-kindNumber (Signed z) = 2
-kindNumber (SingleValue x) = 3
-kindNumber (SingleNan b) = 3
-kindNumber (DoubleValue x) = 4
-kindNumber (DoubleNan b) = 4
-kindNumber (Flag b) = 5
+-- a value's kind for callers in C: 0 no value, 1 unsigned, 2 signed, 3 single, 4 double, 5 flag
+unfoldable pub valueKind : Value → ℕ
+valueKind Nothing = 0
+valueKind (Unsigned n) = 1
+valueKind (Signed z) = 2
+valueKind (SingleValue x) = 3
+valueKind (SingleNan b) = 3
+valueKind (DoubleValue x) = 4
+valueKind (DoubleNan b) = 4
+valueKind (Flag b) = 5
 
 -- the 64-bit two's complement of a signed number
 unfoldable pub complement : ℤ → ℕ

@@ -1,5 +1,8 @@
 // Kerbcanopy's public entries, as C finds them: `include/kerbcanopy.h` declares each under the same name. Every entry takes any bytes,
 // asks nothing of its caller, and answers exactly what the definition that its contract cites says, refusals included.
+use access::part::Part;
+use access::value::value_bits;
+use access::value::value_kind;
 use canonical::Compared;
 use descriptor::answer::Answer;
 use descriptor::answer::Checked;
@@ -8,6 +11,8 @@ ghost use Rattle.descriptor.specs.Answers.{descriptorCheck, withTable};
 ghost use Rattle.canonical.specs.Equality.{comparison};
 ghost use Rattle.canonical.specs.Normal.{normalForm};
 ghost use Rattle.flattened.specs.Answers.{dataCheck};
+ghost use Rattle.access.specs.Path.{located};
+ghost use Rattle.access.specs.Values.{readValue, valueKind, valueBits};
 ghost use Rattle.byteorder.specs.Reversal.{toLittleEndian, fromLittleEndian};
 
 // Reads any bytes as a descriptor. Accepted: number 0, input 0, the place is the row count, and the table has a row for each descriptor
@@ -50,6 +55,42 @@ pub extern "C" fn kc_check_data(descriptor: &[u8], data: &[u8]) -> Answer
     ensures { λ r. ⌜ r ≡ dataCheck (now (descriptor .entry)) (now («data» .entry)) ⌝ }
 {
     flattened::check::check_data(descriptor, data)
+}
+
+// The answer to a reading, with the value's kind and bits, as C takes them.
+#[repr(C)]
+pub struct ValueRead {
+    pub answer: Answer,
+    pub kind: u32,
+    pub bits: u64,
+}
+
+// Finds the part of the data at a path of steps: "a member number in a cluster, a flat element number in an array, counted from 0; the
+// empty path is the whole data". Accepted: number 0, input 0, place 0, and where the part starts and how long it is, length and size
+// words included. Refused: as by the data check, the whole data before the path; else 30 with input 4, the place being the number of the
+// step at fault, counted from 0; start and length are then 0.
+#[no_mangle]
+pub extern "C" fn kc_view(descriptor: &[u8], data: &[u8], path: &[u32]) -> Part
+    ensures { λ r. ⌜ r ≡ located (now (descriptor .entry)) (now («data» .entry)) (now (path .entry)) ⌝ }
+{
+    access::part::locate(descriptor, data, path)
+}
+
+// Reads the number at a path, the steps being those of the view. Accepted: number 0, input 0, place 0, and the kind, 1 unsigned, 2 signed,
+// 3 single, 4 double, 5 flag, with the bits: a signed number's as the two's complement of 64 bits, a single's as the low 32. Refused: as
+// by the view; else 31 with input 4 and place 0 where the path leads to no single number; kind and bits are then 0.
+#[no_mangle]
+pub extern "C" fn kc_read_value(descriptor: &[u8], data: &[u8], path: &[u32]) -> ValueRead
+    ensures answer { λ r. ⌜ r .answer ≡ readValue (now (descriptor .entry)) (now («data» .entry)) (now (path .entry)) .answer ⌝ }
+    ensures kind { λ r. ⌜ r .kind ≡ valueKind (readValue (now (descriptor .entry)) (now («data» .entry)) (now (path .entry)) .value) ⌝ }
+    ensures bits { λ r. ⌜ r .bits ≡ valueBits (readValue (now (descriptor .entry)) (now («data» .entry)) (now (path .entry)) .value) ⌝ }
+{
+    let reading = access::reading::read_value(descriptor, data, path);
+    let answer = reading.answer;
+    let value = reading.value;
+    let kind = value_kind(value);
+    let bits = value_bits(value);
+    ValueRead { answer, kind, bits }
 }
 
 // Writes the little-endian form of the data to the front of `out`, "the same layout with the bytes of each number reversed in place", and

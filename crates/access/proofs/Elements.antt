@@ -1,0 +1,114 @@
+-- A step into an array of accepted data: it leads nowhere from the element count on, and else past as many elements. The count is cut at
+-- 2^32, which no step number reaches. Rests on the laws of values in a row.
+use mathlib.Core.Path.{_≡_, refl, sym, ap, subst, _∙_}
+use mathlib.Core.Bool.{Bool, true, false}
+use mathlib.Core.List.{List, _∷_}
+use Prim.Native.Nat.{ℕ, zero, suc, _+_, _-_, _*_, _^_, _<_, _≤_, min}
+use native.Mathlib.Omega.{arith}
+use borrow.Author.Tests.{lt-ltb, le-ltb}
+use lib.ListN.{length}
+use Rattle.descriptor.specs.Limits.{depthLimit}
+use Rattle.descriptor.specs.Outcome.{Outcome, refused, read, andThen, require}
+use Rattle.descriptor.specs.Tree.{dimensions, nil, cons}
+use Rattle.descriptor.specs.inner.Standing.{isRead, nextOf}
+use Rattle.descriptor.proofs.Outcomes.{holds-read}
+use Rattle.flattened.specs.Order.{big}
+use Rattle.flattened.specs.Token.{Token, sizes}
+use Rattle.flattened.specs.Walk.{token, arrayAt, repeat, walk, walkAll}
+use Rattle.flattened.specs.inner.Cursor.{cursor}
+use Rattle.flattened.specs.inner.Sizes.{elementCap, cappedSizes}
+use Rattle.flattened.specs.inner.Types.{typeAt, TypeStands, DataAt}
+use Rattle.flattened.specs.declared.cursor.Cursor.{Cursor}
+use Rattle.flattened.specs.declared.sizes.Sizes.{Sizes}
+use Rattle.flattened.specs.declared.sizes.Sizes.the-variants.{Count, Refused}
+use Rattle.flattened.proofs.Arms.{walk-one}
+use Rattle.flattened.proofs.Forward.{sizes-end}
+use Rattle.access.specs.Path.{Spot, memberAt, stepAt}
+use Rattle.access.specs.inner.Past.{valuesAt, Values, pastValues}
+use Rattle.access.specs.inner.Spots.{Lies, ArrayLies, spot, reached, Known, Reaches}
+use Rattle.access.specs.declared.reach.Reach.the-variants.{To, Lost}
+use Rattle.access.proofs.Outcomes.{Got, got-read, then-first, then-second, then-next}
+use Rattle.access.proofs.Runs.{Inside, values-inside, first-values, value-read}
+use Rattle.access.proofs.Types.{deeper}
+
+module _ (d : List ℕ) (p dims left : ℕ) (s : List ℕ) (at : ℕ) (lies : ArrayLies d p dims left s at) (low : left ≤ depthLimit) where
+  abbrev front : Outcome ℕ
+  front = arrayAt big s dims at
+
+  sized : Got front
+  sized = got-read front (then-first front (λ next n. andThen (valuesAt d p n s next) (λ last ts. read last (token (sizes dims) at next ∷ ts))) (lies .read))
+
+  abbrev elements : ℕ
+  elements = nextOf front
+
+  all : isRead (valuesAt d p (sized .what) s elements) ≡ true
+  all =
+      then-first (valuesAt d p (sized .what) s elements) (λ last ts. read last (token (sizes dims) at elements ∷ ts))
+      (then-second front (λ next n. andThen (valuesAt d p n s next) (λ last ts. read last (token (sizes dims) at next ∷ ts))) elements (sized .what) (sized .eq) (lies .read))
+
+  -- the size words of accepted data are not refused
+  pub sizes-lost : (number place : ℕ) → Refused number place ≡ cappedSizes (arrayAt big s dims at) → ⊥
+  unfolding cappedSizes
+  sizes-lost number place e =
+      let r : Refused number place ≡ Count (min (sized .what) elementCap) (cursor elements) = e ∙ ap cappedSizes (sized .eq) in
+      let z : _≡_ {A = ℕ} 0 1 = cc in
+      omega arith
+
+  module _ (n : ℕ) (c : Cursor) (counted : Count n c ≡ cappedSizes (arrayAt big s dims at)) where
+    known : Count n c ≡ Count (min (sized .what) elementCap) (cursor elements)
+    unfolding cappedSizes
+    known = counted ∙ ap cappedSizes (sized .eq)
+
+    many : n ≡ min (sized .what) elementCap
+    many = cc known
+
+    there : c ≡ cursor elements
+    there = cc known
+
+    place : c .at ≡ elements
+    place = ap (λ (x : Cursor). x .at) there
+
+    pub elements-inside : c .at ≤ length s
+    elements-inside = let ends = holds-read (sized .eq) (sizes-end s big dims at) in omega (arith, place, ends .1)
+
+    module _ (k i : ℕ) (small : k < 2 ^ 32) (shallow : i < depthLimit) where
+      -- from the element count on
+      pub element-out : n ≤ k → Reaches d left s (stepAt i (dimensions dims) (cons (typeAt d p) nil) k s at) (Lost i)
+      unfolding stepAt reached Known
+      element-out h =
+          let most : sized .what ≤ k = omega (arith, many) in
+          record { eq = sym (rw (sized .eq) (simp (le-ltb k (sized .what) most))); known = shallow }
+
+      module _ (h : k < n) where
+        fewer : k < sized .what
+        fewer = omega (arith, many)
+
+        -- the elements before it
+        pub element-values : Values d p k s (c .at)
+        element-values = record {
+          type = deeper (lies .type) low;
+          bytes = record { inside = elements-inside; short = lies .bytes .short };
+          read = ap (λ (a : ℕ). isRead (valuesAt d p k s a)) place ∙ first-values d p s elements k (sized .what) fewer all;
+        }
+
+        -- element k
+        pub element-at : (r : Cursor) → r ≡ pastValues d p k s (c .at) → Reaches d left s (stepAt i (dimensions dims) (cons (typeAt d p) nil) k s at) (To p r)
+        unfolding stepAt reached Known pastValues memberAt
+        element-at r e =
+            let start : r .at ≡ nextOf (valuesAt d p k s elements) = ap (λ (x : Cursor). x .at) e ∙ ap (λ (a : ℕ). nextOf (valuesAt d p k s a)) place in
+            let inside = values-inside d p k s (c .at) element-values in
+            let stop : r .at ≤ length s = omega (arith, ap (λ (x : Cursor). x .at) e, inside .within) in
+            let before : isRead (valuesAt d p k s elements) ≡ true = first-values d p s elements k (sized .what) fewer all in
+            record {
+              eq = sym (
+                  rw (sized .eq) (simp (lt-ltb k (sized .what) fewer)
+                  ((λ j. andThen (repeat (λ a. walk-one big (typeAt d p) s a j) k elements) (λ q _. memberAt i (cons (typeAt d p) nil) zero s q))
+                  ∙ then-next (valuesAt d p k s elements) (λ q. read q (record { type = typeAt d p; start = q })) before
+                  ∙ ap (λ (q : ℕ). read q (record { type = typeAt d p; start = q })) (sym start)))
+                  );
+              known = record {
+                type = lies .type;
+                bytes = record { inside = stop; short = lies .bytes .short };
+                read = ap (λ (a : ℕ). isRead (walk big (typeAt d p) s a)) start ∙ value-read d p s elements k (sized .what) fewer all;
+              };
+            }

@@ -1,0 +1,12 @@
+pub mod Outcomes
+pub mod Runs
+pub mod Types
+pub mod Elements
+pub mod Members
+pub mod Stepping
+pub mod Paths
+pub mod Values
+pub mod Signs
+pub mod Answers
+pub mod Parts
+pub mod Readings
