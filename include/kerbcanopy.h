@@ -1,13 +1,14 @@
 /*
- * Kerbcanopy: reads LabVIEW type descriptors. Any bytes may come.
+ * Kerbcanopy: reads LabVIEW type descriptors and flattened data. Any bytes may come.
  *
- * Every function takes bytes as a pointer and a length, and asks of the caller only what C can't show: that the pointer is not NULL,
- * that as many bytes can be read, or in an output written, as the length says, that nothing else changes them during the call, and
- * that an input and an output do not overlap. Nothing is kept between calls, and nothing is allocated.
+ * Every function takes bytes, or a path's steps, as a pointer and a length, and asks of the caller only what C can't show: that the
+ * pointer is not NULL (that of a path being aligned), that as many of them can be read, or in an output written, as the length says,
+ * that nothing else changes them during the call, and that an input and an output do not overlap. Nothing is kept between calls, and
+ * nothing is allocated.
  *
  * Every answer has a number, the input at fault and a place.
  *
- *   input   0 accepted, 1 the first descriptor, 2 the second descriptor, 4 the request
+ *   input   0 accepted, 1 the first descriptor, 2 the second descriptor, 3 the data, 4 the request
  *
  *   number  given when                                                      place
  *        0  accepted                                                        see the function
@@ -25,12 +26,26 @@
  *           enumeration fill byte not zero, array in array
  *       11  what is left is no name                                         start
  *       12  bytes after the top descriptor                                  its size
+ *       20  data over 65,536 bytes                                          0
+ *       21  data ends inside a piece                                        piece start
+ *       22  a length or size of 2^31 or more                                piece start
+ *       23  enumeration's number not below its item count                   piece start
+ *       24  Boolean's byte over 1                                           piece start
+ *       25  bytes left over                                                 first of them
+ *       30  step out of range, or on a type without parts (input 4)         step number, from 0
+ *       31  no single number there: a string, array, cluster, extended      0
+ *           or complex number (input 4)
  *       50  output too small (input 4)                                      length needed
  *
  * "Start" is the first byte of the descriptor at fault, counted from the first byte lent. For the top descriptor the parent's end is
  * the end of the lent bytes. Where several numbers fit, the answer is the first: 1; then at each descriptor, parent before child, 2 to
  * 7 and array in array, then its body (count word missing 8, count 9, the rest missing 8, contents 10; an enumeration in byte order, 8
- * at the first string that runs over), then the descriptors in it, then 11; last 12; and after all of them 50.
+ * at the first string that runs over), then the descriptors in it, then 11; last 12.
+ *
+ * A piece of the data is one scalar, one whole string with its length word, or the size words of one array. "Piece start" is its first
+ * byte, counted from the first byte of the data. A descriptor is judged to its end before its data: 20; then piece by piece 21, 22, 23,
+ * 24 (all size words of an array, or the length word of a string, are there, 21, before 22 is judged; a string's characters are looked
+ * for after that, 21); last 25. Then comes the path, 30, and what it leads to, 31; and after all of them 50.
  */
 #ifndef KERBCANOPY_H
 #define KERBCANOPY_H
@@ -55,6 +70,22 @@ typedef struct { uint16_t code, start, size, depth, count, name_place, name_leng
 typedef struct { kc_answer answer; kc_row rows[256]; } kc_checked;
 
 typedef struct { kc_answer answer; bool equal; } kc_compared;
+
+/* A part of the lent data: its first byte and its length in bytes. */
+typedef struct { kc_answer answer; size_t start, length; } kc_part;
+
+/*
+ * A number: what kind it is, and its bits.
+ *
+ *   kind    code (hexadecimal)    bits
+ *   0       no value              0
+ *   1       05 to 08, 15 to 17    an unsigned number
+ *   2       01 to 04              a signed number, as the two's complement of 64 bits
+ *   3       09, 19                a single, its exact bits the low 32
+ *   4       0A, 1A                a double, its exact bits
+ *   5       21                    a flag, 0 for false or 1 for true
+ */
+typedef struct { kc_answer answer; uint32_t kind; uint64_t bits; } kc_value;
 
 /*
  * Reads any bytes as a descriptor.
@@ -83,6 +114,60 @@ kc_compared kc_compare(const uint8_t *first, size_t first_len, const uint8_t *se
  * Refused: 1 to 12 with input 1; or 50 with input 4 where `out` is too small, the place being the length needed. Nothing is written.
  */
 kc_answer kc_normal_form(const uint8_t *descriptor, size_t descriptor_len, uint8_t *out, size_t out_len);
+
+/*
+ * Walks data under a descriptor. Numbers are big-endian, as wide as their code says: 1, 2, 4, 8 bytes for 01 to 04 and again for 05 to
+ * 08; 4, 8, 16 for 09 to 0B and 19 to 1B; 8, 16, 32 for 0C to 0E and 1C to 1E; 1, 2, 4 for 15 to 17; 1 for 21. A string is a 32-bit
+ * length and its characters; an array is one 32-bit size for each dimension, then the elements, last dimension fastest; a cluster is
+ * its members in order. Each piece starts exactly where the one before it ended, and together the pieces are the whole data.
+ *
+ * Accepted: number 0, input 0, and the place is the piece count.
+ * Refused: 1 to 12 with input 1, or 20 to 25 with input 3.
+ */
+kc_answer kc_check_data(const uint8_t *descriptor, size_t descriptor_len, const uint8_t *data, size_t data_len);
+
+/*
+ * Finds a part of the data by a path of steps: a member number in a cluster, a flat element number in an array, counted from 0. The
+ * empty path is the whole data. The part has its length and size words in it. The whole data is judged before the path.
+ *
+ * Accepted: number 0, input 0, place 0, and the part's start and length.
+ * Refused: 1 to 12 with input 1, 20 to 25 with input 3, or 30 with input 4; the part is empty at the front, start 0 and length 0.
+ */
+kc_part kc_view(const uint8_t *descriptor, size_t descriptor_len, const uint8_t *data, size_t data_len,
+                const uint32_t *path, size_t path_len);
+
+/*
+ * Reads the number at the end of a path, the steps being those of kc_view.
+ *
+ * Accepted: number 0, input 0, place 0, and the value's kind and bits.
+ * Refused: 1 to 12 with input 1, 20 to 25 with input 3, 30 with input 4, or 31 with input 4 where the path leads to no single number;
+ * there is no value, kind 0 and bits 0.
+ */
+kc_value kc_read_value(const uint8_t *descriptor, size_t descriptor_len, const uint8_t *data, size_t data_len,
+                       const uint32_t *path, size_t path_len);
+
+/*
+ * Writes the little-endian form of the data to the front of `out`: the same layout, as long as the data, with the bytes of each number
+ * reversed in place: each integer, enumeration, real number, half of a complex number, string length and size word. Booleans and
+ * characters stay.
+ *
+ * Accepted: number 0, input 0, and the place is the length written; `out` beyond it keeps its bytes.
+ * Refused: 1 to 12 with input 1, 20 to 25 with input 3, or 50 with input 4 where `out` is too small, the place being the length needed.
+ * Nothing is written.
+ */
+kc_answer kc_to_little_endian(const uint8_t *descriptor, size_t descriptor_len, const uint8_t *data, size_t data_len,
+                              uint8_t *out, size_t out_len);
+
+/*
+ * Writes the data whose little-endian form is lent to the front of `out`. A little-endian buffer is accepted exactly when it is the form
+ * of accepted data; its refusals are those of the walk with numbers, lengths and sizes read reversed.
+ *
+ * Accepted: number 0, input 0, and the place is the length written; `out` beyond it keeps its bytes.
+ * Refused: 1 to 12 with input 1, 20 to 25 with input 3, or 50 with input 4 where `out` is too small, the place being the length needed.
+ * Nothing is written.
+ */
+kc_answer kc_from_little_endian(const uint8_t *descriptor, size_t descriptor_len, const uint8_t *data, size_t data_len,
+                                uint8_t *out, size_t out_len);
 
 #ifdef __cplusplus
 }

@@ -42,6 +42,27 @@ pub(crate) struct RawCompared {
     pub(crate) equal: u8,
 }
 
+/// What a view returns: the answer, and the part of the lent data, empty and at
+/// the front after a refusal.
+#[repr(C)]
+#[derive(Clone, Copy, Debug, PartialEq, Eq)]
+pub struct Part {
+    pub answer: Answer,
+    pub start: usize,
+    pub length: usize,
+}
+
+/// What a value read returns. The kind is 0 for no value, 1 for an unsigned
+/// number, 2 for a signed one (the bits are its 64-bit two's complement), 3 for
+/// a single (the low 32 bits), 4 for a double and 5 for a flag (0 or 1).
+#[repr(C)]
+#[derive(Clone, Copy, Debug, PartialEq, Eq)]
+pub struct Value {
+    pub answer: Answer,
+    pub kind: u32,
+    pub bits: u64,
+}
+
 unsafe extern "C" {
     pub(crate) fn kc_check_descriptor(descriptor: *const u8, descriptor_len: usize) -> Checked;
     pub(crate) fn kc_compare(
@@ -53,6 +74,44 @@ unsafe extern "C" {
     pub(crate) fn kc_normal_form(
         descriptor: *const u8,
         descriptor_len: usize,
+        out: *mut u8,
+        out_len: usize,
+    ) -> Answer;
+    pub(crate) fn kc_check_data(
+        descriptor: *const u8,
+        descriptor_len: usize,
+        data: *const u8,
+        data_len: usize,
+    ) -> Answer;
+    pub(crate) fn kc_view(
+        descriptor: *const u8,
+        descriptor_len: usize,
+        data: *const u8,
+        data_len: usize,
+        path: *const u32,
+        path_len: usize,
+    ) -> Part;
+    pub(crate) fn kc_read_value(
+        descriptor: *const u8,
+        descriptor_len: usize,
+        data: *const u8,
+        data_len: usize,
+        path: *const u32,
+        path_len: usize,
+    ) -> Value;
+    pub(crate) fn kc_to_little_endian(
+        descriptor: *const u8,
+        descriptor_len: usize,
+        data: *const u8,
+        data_len: usize,
+        out: *mut u8,
+        out_len: usize,
+    ) -> Answer;
+    pub(crate) fn kc_from_little_endian(
+        descriptor: *const u8,
+        descriptor_len: usize,
+        data: *const u8,
+        data_len: usize,
         out: *mut u8,
         out_len: usize,
     ) -> Answer;
