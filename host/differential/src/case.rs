@@ -1,192 +1,60 @@
-//! One case: the bytes to ask about, what the generator knows of the answer,
-//! and the descriptors to compare it with.
+//! The cases of a seed by their numbers: first the limits of descriptors and of
+//! data, then what chance brings.
 
-use reference::Answer;
-
-use crate::damage::damage;
-use crate::grow;
-use crate::limits::Limit;
+use crate::difference::Held;
 use crate::random::Random;
-use crate::tree::{Encoded, StatedRow, Tree};
+use crate::tally::Tally;
+use crate::{data, descriptor};
 
-#[derive(Clone, Copy, PartialEq, Eq)]
-pub enum Kind {
-    Limit,
-    Tree,
-    Damaged,
-    Wild,
-    Headed,
-    Random,
+/// A case about descriptors or about data.
+pub enum Case {
+    Descriptor(descriptor::case::Case),
+    Data(data::case::Case),
 }
 
-/// Every kind with the words for it, in the order of the enum.
-pub const KINDS: [(Kind, &str); 6] = [
-    (Kind::Limit, "limits and their neighbours"),
-    (Kind::Tree, "well-formed trees"),
-    (Kind::Damaged, "damaged trees"),
-    (Kind::Wild, "trees beyond the limits"),
-    (Kind::Headed, "random bytes behind a header"),
-    (Kind::Random, "random bytes"),
-];
-
-pub struct Case {
-    pub kind: Kind,
-    pub what: String,
-    pub bytes: Vec<u8>,
-    /// What a read past the end would find in place of a guard.
-    pub beyond: Vec<u8>,
-    pub stated: Stated,
-    pub partners: Vec<Partner>,
+/// The cases that every seed starts with.
+pub struct Limits {
+    descriptors: Vec<descriptor::limits::Limit>,
+    data: Vec<data::limits::Limit>,
 }
 
-/// What the generator itself says of a case, where it can.
-#[derive(Default)]
-pub struct Stated {
-    pub answer: Option<Answer>,
-    pub rows: Option<Vec<StatedRow>>,
-    pub normal_form: Option<Vec<u8>>,
-}
-
-/// A descriptor to compare with, and whether the two are equal where known.
-pub struct Partner {
-    pub bytes: Vec<u8>,
-    pub equal: Option<bool>,
-}
-
-/// A case without partners or a statement.
-fn bare(kind: Kind, what: &str, bytes: Vec<u8>) -> Case {
-    Case {
-        kind,
-        what: what.to_string(),
-        bytes,
-        beyond: Vec::new(),
-        stated: Stated::default(),
-        partners: Vec::new(),
-    }
-}
-
-/// The case of this number: first come the limits, then what chance brings.
-pub fn make(random: &mut Random, number: u64, limits: &[Limit]) -> Case {
-    let mut case = match limits.get(number as usize) {
-        Some(limit) => limit_case(limit),
-        None => match random.below(20) {
-            0..7 => tree_case(random),
-            7..15 => damaged_case(random),
-            15..17 => wild_case(random),
-            17..19 => bare(Kind::Headed, "random bytes behind a header", headed(random)),
-            _ => bare(Kind::Random, "random bytes", random_bytes(random)),
-        },
-    };
-    if case.kind != Kind::Tree {
-        let other = grow::tame(random);
-        let bytes = encode(random, &other).bytes;
-        case.partners.push(unknown(bytes));
-    }
-    if random.once_in(16) {
-        let length = random.pick(&[4095, 4096, 4097, 5000]);
-        let mut long = vec![0; length];
-        let start = case.bytes.len().min(length);
-        long[..start].copy_from_slice(&case.bytes[..start]);
-        case.partners.push(unknown(long));
-    }
-    case
-}
-
-fn unknown(bytes: Vec<u8>) -> Partner {
-    Partner { bytes, equal: None }
-}
-
-/// A tree's bytes with reserved bytes of zero, of one value or of many.
-fn encode(random: &mut Random, tree: &Tree) -> Encoded {
-    match random.below(4) {
-        0 => tree.normal_form(),
-        1 => {
-            let reserved = random.byte();
-            tree.encode(&mut || reserved)
+impl Limits {
+    pub fn all() -> Limits {
+        Limits {
+            descriptors: descriptor::limits::all(),
+            data: data::limits::all(),
         }
-        _ => tree.encode(&mut || random.byte()),
     }
 }
 
-fn limit_case(limit: &Limit) -> Case {
-    let mut case = bare(Kind::Limit, &limit.what, limit.bytes.clone());
-    case.stated.answer = Some(limit.answer);
-    case
-}
-
-fn tree_case(random: &mut Random) -> Case {
-    let tree = grow::tame(random);
-    let encoded = encode(random, &tree);
-    let mut case = bare(Kind::Tree, "well-formed tree", encoded.bytes.clone());
-    case.stated = Stated {
-        answer: Some(Answer {
-            number: 0,
-            input: 0,
-            place: encoded.rows.len() as u32,
-        }),
-        rows: Some(encoded.rows.clone()),
-        normal_form: Some(tree.normal_form().bytes),
-    };
-    for other in [grow::twin(random, &tree), grow::tame(random)] {
-        case.partners.push(Partner {
-            bytes: encode(random, &other).bytes,
-            equal: Some(other == tree),
-        });
+impl Case {
+    /// The case of this number.
+    pub fn make(random: &mut Random, number: u64, limits: &Limits) -> Case {
+        let number = number as usize;
+        if let Some(limit) = limits.descriptors.get(number) {
+            return Case::Descriptor(descriptor::case::Case::of_limit(limit, random));
+        }
+        if let Some(limit) = limits.data.get(number - limits.descriptors.len()) {
+            return Case::Data(data::case::Case::of_limit(limit, random));
+        }
+        match random.once_in(2) {
+            true => Case::Descriptor(descriptor::case::Case::any(random)),
+            false => Case::Data(data::case::Case::any(random)),
+        }
     }
-    let damaged = damage(random, &encoded).bytes;
-    case.partners.push(unknown(damaged));
-    case
-}
 
-fn damaged_case(random: &mut Random) -> Case {
-    let tree = grow::tame(random);
-    let encoded = encode(random, &tree);
-    let damaged = damage(random, &encoded);
-    let mut case = bare(Kind::Damaged, "damaged tree", damaged.bytes);
-    case.beyond = damaged.beyond;
-    case.partners.push(unknown(damage(random, &encoded).bytes));
-    case.partners.push(unknown(encoded.bytes));
-    case
-}
-
-fn wild_case(random: &mut Random) -> Case {
-    let tree = grow::wild(random);
-    let encoded = encode(random, &tree);
-    let mut case = bare(Kind::Wild, "tree beyond the limits", encoded.bytes.clone());
-    case.partners.push(unknown(damage(random, &encoded).bytes));
-    case
-}
-
-/// A header that passes 2 to 5, a likely count, then likely and random words.
-fn headed(random: &mut Random) -> Vec<u8> {
-    let length = 2 * random.between(2, 30);
-    let code = random.pick(&[0x03, 0x15, 0x17, 0x19, 0x1E, 0x21, 0x30, 0x40, 0x50, 0x50]);
-    let mut bytes = vec![0, length as u8, random.byte(), code];
-    while bytes.len() < length {
-        let likely = [
-            0, 1, 2, 3, 4, 4, 6, 8, 10, 0x15, 0x1A, 0x30, 0x40, 0x50, 0xFFFF,
-        ];
-        let word = match random.once_in(6) {
-            true => random.next() as u16,
-            false => random.pick(&likely),
-        };
-        bytes.extend(word.to_be_bytes());
+    pub fn what(&self) -> &str {
+        match self {
+            Case::Descriptor(case) => &case.what,
+            Case::Data(case) => &case.what,
+        }
     }
-    if random.once_in(6) {
-        bytes.push(random.byte());
-    }
-    bytes
-}
 
-fn random_bytes(random: &mut Random) -> Vec<u8> {
-    let length = match random.below(12) {
-        0 => random.between(4000, 4200),
-        1..4 => random.below(200),
-        _ => random.below(12),
-    };
-    let mut bytes = random.bytes(length);
-    if random.once_in(2) {
-        bytes.iter_mut().step_by(2).for_each(|byte| *byte = 0);
+    /// Holds the two against each other over it. Returns the first difference.
+    pub fn hold(&self, random: &mut Random, exact: bool, tally: &mut Tally) -> Held<()> {
+        match self {
+            Case::Descriptor(case) => descriptor::hold::hold(case, random, exact, tally),
+            Case::Data(case) => data::hold::hold(case, random, exact, tally),
+        }
     }
-    bytes
 }

@@ -13,8 +13,16 @@ struct Room {
     depth: usize,
     /// Counts, base indexes and arrays in arrays may break their rules.
     lawless: bool,
+    style: Style,
+}
+
+#[derive(Clone, Copy, PartialEq, Eq)]
+enum Style {
+    Usual,
     /// Few names and bodies, so that the rows run out before the bytes.
-    lean: bool,
+    Lean,
+    /// Few names and many bodies, so that there is much to walk in the data.
+    Rich,
 }
 
 impl Room {
@@ -40,7 +48,20 @@ pub fn tame(random: &mut Random) -> Tree {
         bytes: random.pick(&[16, 60, 60, 200, 200, 600, 4096]),
         depth: 8,
         lawless: false,
-        lean: random.once_in(2),
+        style: random.pick(&[Style::Usual, Style::Lean]),
+    };
+    grow(random, 1, &mut room, false)
+}
+
+/// A tree that must be accepted, with strings, arrays and judged scalars in
+/// plenty.
+pub fn for_data(random: &mut Random) -> Tree {
+    let mut room = Room {
+        rows: random.pick(&[1, 2, 2, 3, 3, 4, 5, 6, 8, 12, 20, 40, 200]),
+        bytes: random.pick(&[60, 200, 200, 600, 4096]),
+        depth: 8,
+        lawless: false,
+        style: random.pick(&[Style::Usual, Style::Rich, Style::Rich]),
     };
     grow(random, 1, &mut room, false)
 }
@@ -64,7 +85,7 @@ pub fn wild(random: &mut Random) -> Tree {
         bytes,
         depth,
         lawless,
-        lean: random.once_in(2),
+        style: random.pick(&[Style::Usual, Style::Lean]),
     };
     grow(random, 1, &mut room, false)
 }
@@ -74,11 +95,12 @@ fn grow(random: &mut Random, depth: usize, room: &mut Room, in_array: bool) -> T
     room.rows -= 1;
     room.bytes -= 4;
     // With much room to fill, the top is a cluster.
-    let choices = match depth {
-        1 if room.rows > 30 => 7,
-        1 => 16,
-        _ if room.lean => 80,
-        _ => 24,
+    let choices = match (depth, room.style) {
+        (1, _) if room.rows > 30 => 7,
+        (1, _) => 18,
+        (_, Style::Usual) => 24,
+        (_, Style::Lean) => 80,
+        (_, Style::Rich) => 18,
     };
     let body = match random.below(choices) {
         0..7 if room.holds_child(depth, 2) => cluster(random, depth, room),
@@ -87,10 +109,10 @@ fn grow(random: &mut Random, depth: usize, room: &mut Room, in_array: bool) -> T
         }
         10..12 => enumeration(random, room),
         12..14 => quantity(random, room),
-        14 if room.take(4) => Body::Text,
+        14..16 if room.take(4) => Body::Text,
         _ => Body::Plain(random.pick(&PLAIN)),
     };
-    let named = !room.lean || random.once_in(6);
+    let named = room.style == Style::Usual || random.once_in(6);
     let name = name(random).filter(|name| named && room.take((name.len() + 2) & !1));
     Tree { body, name }
 }

@@ -1,5 +1,6 @@
-//! Buffers to lend: in the middle of a larger buffer whose other bytes stand
-//! guard, or in an allocation of exactly the right length.
+//! Buffers to lend, of bytes or of a path's steps: in the middle of a larger
+//! buffer whose other items stand guard, or in an allocation of exactly the right
+//! length.
 
 use crate::random::Random;
 
@@ -30,22 +31,23 @@ impl Around {
     }
 }
 
-pub struct Lent {
-    buffer: Box<[u8]>,
-    before: Box<[u8]>,
+pub struct Lent<T = u8> {
+    buffer: Box<[T]>,
+    before: Box<[T]>,
     start: usize,
     length: usize,
 }
 
-impl Lent {
-    /// Lends a copy of `bytes`; `beyond` stands directly behind it.
-    pub fn new(bytes: &[u8], beyond: &[u8], around: Around) -> Lent {
+impl<T: Copy + PartialEq + From<u8>> Lent<T> {
+    /// Lends a copy of `items`; `beyond` stands directly behind it.
+    pub fn new(items: &[T], beyond: &[T], around: Around) -> Lent<T> {
         let (buffer, start) = if around.exact {
-            (Box::from(bytes), 0)
+            (Box::from(items), 0)
         } else {
-            let mut buffer = vec![around.fill; around.lead + bytes.len() + beyond.len() + 24];
-            let end = around.lead + bytes.len();
-            buffer[around.lead..end].copy_from_slice(bytes);
+            let length = around.lead + items.len() + beyond.len() + 24;
+            let mut buffer = vec![T::from(around.fill); length];
+            let end = around.lead + items.len();
+            buffer[around.lead..end].copy_from_slice(items);
             buffer[end..end + beyond.len()].copy_from_slice(beyond);
             (buffer.into_boxed_slice(), around.lead)
         };
@@ -53,26 +55,32 @@ impl Lent {
             before: buffer.clone(),
             buffer,
             start,
-            length: bytes.len(),
+            length: items.len(),
         }
     }
 
+    pub fn items(&self) -> &[T] {
+        &self.buffer[self.start..self.start + self.length]
+    }
+
+    /// Whether every item, lent or guard, is as it was.
+    pub fn untouched(&self) -> bool {
+        self.buffer == self.before
+    }
+}
+
+impl Lent {
     /// Lends room of this length, filled with one byte.
     pub fn room(length: usize, fill: u8, around: Around) -> Lent {
         Lent::new(&vec![fill; length], &[], around)
     }
 
     pub fn bytes(&self) -> &[u8] {
-        &self.buffer[self.start..self.start + self.length]
+        self.items()
     }
 
     pub fn bytes_mut(&mut self) -> &mut [u8] {
         &mut self.buffer[self.start..self.start + self.length]
-    }
-
-    /// Whether every byte, lent or guard, is as it was.
-    pub fn untouched(&self) -> bool {
-        self.buffer == self.before
     }
 
     /// Whether only the first `written` lent bytes may have changed.

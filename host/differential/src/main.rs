@@ -3,11 +3,12 @@
 #![forbid(unsafe_code)]
 
 mod case;
-mod damage;
+mod data;
+mod descriptor;
+mod difference;
 mod grow;
-mod hold;
+mod kind;
 mod lent;
-mod limits;
 mod options;
 mod random;
 mod tally;
@@ -15,8 +16,8 @@ mod tree;
 
 use std::process::ExitCode;
 
-use crate::hold::{Difference, hex};
-use crate::limits::Limit;
+use crate::case::{Case, Limits};
+use crate::difference::Held;
 use crate::options::Options;
 use crate::random::Random;
 use crate::tally::Tally;
@@ -29,7 +30,7 @@ fn main() -> ExitCode {
             return ExitCode::from(2);
         }
     };
-    let limits = limits::all();
+    let limits = Limits::all();
     let mut all = Tally::default();
     let (mut passed, mut failed) = (0, 0);
     for &seed in &options.seeds {
@@ -48,12 +49,13 @@ fn main() -> ExitCode {
 
 /// Runs the cases of one seed up to the first difference. It passes if there is
 /// none and, in the gate run, every number was met.
-fn run_seed(seed: u64, options: &Options, limits: &[Limit], all: &mut Tally) -> bool {
+fn run_seed(seed: u64, options: &Options, limits: &Limits, all: &mut Tally) -> bool {
     let mut tally = Tally::default();
     let mut same = true;
     for number in options.cases.clone() {
         if let Err(difference) = run(seed, number, limits, options.exact, &mut tally) {
-            print_difference(seed, number, &difference);
+            difference.print();
+            println!("again with: --seed {seed} --case {number}");
             same = false;
             break;
         }
@@ -69,29 +71,13 @@ fn run_seed(seed: u64, options: &Options, limits: &[Limit], all: &mut Tally) -> 
 }
 
 /// Makes one case and holds the two against each other over it.
-fn run(
-    seed: u64,
-    number: u64,
-    limits: &[Limit],
-    exact: bool,
-    tally: &mut Tally,
-) -> Result<(), Difference> {
+fn run(seed: u64, number: u64, limits: &Limits, exact: bool, tally: &mut Tally) -> Held<()> {
     let mut random = Random::for_case(seed, number);
-    let case = case::make(&mut random, number, limits);
-    let held = hold::hold(&case, &mut random, exact, tally);
+    let case = Case::make(&mut random, number, limits);
+    let held = case.hold(&mut random, exact, tally);
     match held {
         Ok(()) => tally.cases += 1,
-        Err(_) => println!("case: {}", case.what),
+        Err(_) => println!("case: {}", case.what()),
     }
     held
-}
-
-fn print_difference(seed: u64, number: u64, difference: &Difference) {
-    println!("difference in {}", difference.question);
-    println!("again with: --seed {seed} --case {number}");
-    for (input, bytes) in difference.inputs.iter().enumerate() {
-        println!("  input {}: {}", input + 1, hex(bytes));
-    }
-    println!("  kerbcanopy: {}", difference.proved);
-    println!("  expected:   {}", difference.other);
 }

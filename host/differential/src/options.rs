@@ -10,14 +10,14 @@ pub const USAGE: &str = "usage: differential [--exact] [--cases N] [--seed S] [-
   --seed S       this seed alone
   --case I       case I alone, to look at a difference again
   --exact        every buffer in an allocation of its own length, for a memory
-                 checker, and fewer cases";
+                 checker, and fewer seeds and cases";
 
 /// The seeds that every gate run takes.
 const FIXED_SEEDS: [u64; 4] = [1, 2, 3, 4];
 /// Cases of each seed in the gate run.
-const GATE_CASES: u64 = 150_000;
-/// The same when a memory checker looks on.
-const EXACT_CASES: u64 = 1_500;
+const GATE_CASES: u64 = 240_000;
+/// The same when a memory checker looks on, which takes one fixed seed.
+const EXACT_CASES: u64 = 9_000;
 
 pub struct Options {
     pub seeds: Vec<u64>,
@@ -40,11 +40,14 @@ impl Options {
                 _ => return Err(format!("unknown argument {argument}")),
             }
         }
-        let usual = if exact { EXACT_CASES } else { GATE_CASES };
+        let (usual, fixed) = match exact {
+            true => (EXACT_CASES, 1),
+            false => (GATE_CASES, FIXED_SEEDS.len()),
+        };
         let gate = seed.is_none() && cases.is_none() && case.is_none();
         let seeds = match seed {
             Some(seed) => vec![seed],
-            None => [&FIXED_SEEDS[..], &[fresh_seed()]].concat(),
+            None => [&FIXED_SEEDS[..fixed], &[fresh_seed()]].concat(),
         };
         let cases = match case {
             Some(case) => case..case + 1,

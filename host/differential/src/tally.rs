@@ -2,10 +2,12 @@
 
 use reference::{Answer, Compared};
 
-use crate::case::{KINDS, Kind};
+use crate::kind::{KINDS, Kind};
 
-/// Every number that the descriptor questions can answer.
-const NUMBERS: [u32; 14] = [0, 1, 2, 3, 4, 5, 6, 7, 8, 9, 10, 11, 12, 50];
+/// Every number that the questions can answer.
+const NUMBERS: [u32; 22] = [
+    0, 1, 2, 3, 4, 5, 6, 7, 8, 9, 10, 11, 12, 20, 21, 22, 23, 24, 25, 30, 31, 50,
+];
 
 #[derive(Default)]
 pub struct Tally {
@@ -15,21 +17,27 @@ pub struct Tally {
     equal: u64,
     unequal: u64,
     not_compared: u64,
+    forms: u64,
+    parts: u64,
+    values: u64,
 }
 
 impl Tally {
     /// Adds what another tally counted.
     pub fn add(&mut self, other: &Tally) {
-        self.cases += other.cases;
         for (count, more) in self.kinds.iter_mut().zip(other.kinds) {
             *count += more;
         }
         for (count, more) in self.met.iter_mut().zip(other.met) {
             *count += more;
         }
+        self.cases += other.cases;
         self.equal += other.equal;
         self.unequal += other.unequal;
         self.not_compared += other.not_compared;
+        self.forms += other.forms;
+        self.parts += other.parts;
+        self.values += other.values;
     }
 
     /// Counts a case by its kind and by the check's number.
@@ -38,18 +46,34 @@ impl Tally {
         self.meet(answer.number);
     }
 
-    /// Counts refusals for want of room; the others are the check's.
-    pub fn normal_form(&mut self, answer: Answer) {
-        if answer.number == 50 {
-            self.meet(50);
-        }
-    }
-
     pub fn compared(&mut self, compared: &Compared) {
         match (compared.answer.number, compared.equal) {
             (0, true) => self.equal += 1,
             (0, false) => self.unequal += 1,
             _ => self.not_compared += 1,
+        }
+    }
+
+    /// Counts an output written, or its refusal where that is the request's; the
+    /// others are the check's. Likewise for the next two.
+    pub fn form(&mut self, answer: Answer) {
+        self.forms += u64::from(answer.number == 0);
+        self.request(answer);
+    }
+
+    pub fn part(&mut self, answer: Answer) {
+        self.parts += u64::from(answer.number == 0);
+        self.request(answer);
+    }
+
+    pub fn value(&mut self, answer: Answer) {
+        self.values += u64::from(answer.number == 0);
+        self.request(answer);
+    }
+
+    fn request(&mut self, answer: Answer) {
+        if answer.input == 4 {
+            self.meet(answer.number);
         }
     }
 
@@ -80,5 +104,8 @@ impl Tally {
         println!("{:>9}  comparisons equal", self.equal);
         println!("{:>9}  comparisons unequal", self.unequal);
         println!("{:>9}  comparisons refused", self.not_compared);
+        println!("{:>9}  outputs written", self.forms);
+        println!("{:>9}  parts found", self.parts);
+        println!("{:>9}  values read", self.values);
     }
 }

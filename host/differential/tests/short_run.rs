@@ -25,14 +25,14 @@ fn demand_passed(arguments: &[&str], seed_line: &str) {
 
 #[test]
 fn the_two_agree() {
-    let arguments = ["--seed", "7", "--cases", "5000"];
-    demand_passed(&arguments, "seed 7: 5000 cases, every number met");
+    let arguments = ["--seed", "7", "--cases", "12000"];
+    demand_passed(&arguments, "seed 7: 12000 cases, every number met");
 }
 
 #[test]
 fn the_two_agree_in_exact_allocations() {
-    let arguments = ["--exact", "--seed", "8", "--cases", "5000"];
-    demand_passed(&arguments, "seed 8: 5000 cases, every number met");
+    let arguments = ["--exact", "--seed", "8", "--cases", "12000"];
+    demand_passed(&arguments, "seed 8: 12000 cases, every number met");
 }
 
 #[test]

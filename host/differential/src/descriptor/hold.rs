@@ -3,20 +3,11 @@
 
 use reference::{Answer, MOST_ROWS};
 
-use crate::case::{Case, Partner};
+use super::case::{Case, Partner};
+use crate::difference::{Held, demand, demand_guarded, hex, plain};
 use crate::lent::{Around, Lent};
 use crate::random::Random;
 use crate::tally::Tally;
-
-/// Two results that should be the same, and the inputs that led to them.
-pub struct Difference {
-    pub question: String,
-    pub proved: String,
-    pub other: String,
-    pub inputs: Vec<Vec<u8>>,
-}
-
-type Held<T> = Result<T, Difference>;
 
 /// One case being held, and what stands around its buffers.
 struct Hold<'a> {
@@ -33,54 +24,21 @@ pub fn hold(case: &Case, random: &mut Random, exact: bool, tally: &mut Tally) ->
         around,
         tally,
     };
-    let checked = hold.check()?;
-    hold.normal_forms(&checked, random)?;
-    for partner in relatives(case, &checked, random) {
-        hold.compare(&partner)?;
-    }
-    for partner in &case.partners {
-        hold.compare(partner)?;
-    }
-    Ok(())
-}
-
-/// The library's answer as the second implementation writes it.
-fn plain(answer: kerbcanopy::Answer) -> Answer {
-    Answer {
-        number: answer.number,
-        input: answer.input,
-        place: answer.place,
-    }
+    let held = hold.every_question(random);
+    held.map_err(|difference| difference.about("descriptor", &case.bytes))
 }
 
 impl Hold<'_> {
-    /// A difference unless `same`; the texts are made only when needed.
-    fn demand(
-        &self,
-        same: bool,
-        question: &str,
-        texts: impl FnOnce() -> [String; 2],
-        second: Option<&[u8]>,
-    ) -> Held<()> {
-        if same {
-            return Ok(());
+    fn every_question(&mut self, random: &mut Random) -> Held<()> {
+        let checked = self.check()?;
+        self.normal_forms(&checked, random)?;
+        let case = self.case;
+        let relatives = relatives(case, &checked, random);
+        for partner in relatives.iter().chain(&case.partners) {
+            let held = self.compare(partner);
+            held.map_err(|difference| difference.about("compared with", &partner.bytes))?;
         }
-        let [proved, other] = texts();
-        let second = second.map(<[u8]>::to_vec);
-        Err(Difference {
-            question: question.to_string(),
-            proved,
-            other,
-            inputs: [self.case.bytes.clone()]
-                .into_iter()
-                .chain(second)
-                .collect(),
-        })
-    }
-
-    fn demand_guarded(&self, untouched: bool, question: &str) -> Held<()> {
-        let texts = || ["lent or guard bytes changed".into(), "none may".into()];
-        self.demand(untouched, question, texts, None)
+        Ok(())
     }
 
     /// The check, twice with other bytes around, and against the statement.
@@ -92,8 +50,8 @@ impl Hold<'_> {
             let proved = kerbcanopy::check_descriptor(lent.bytes());
             let same = same_table(&proved, &checked);
             let texts = || [proved_text(&proved), checked_text(&checked)];
-            self.demand(same, "check_descriptor", texts, None)?;
-            self.demand_guarded(lent.untouched(), "check_descriptor")?;
+            demand(same, "check_descriptor", texts)?;
+            demand_guarded(lent.untouched(), "check_descriptor")?;
         }
         self.check_statement(&checked)?;
         self.tally.checked(self.case.kind, checked.answer);
@@ -105,7 +63,7 @@ impl Hold<'_> {
         let question = "check_descriptor against the generator";
         if let Some(stated) = self.case.stated.answer {
             let texts = || [format!("{:?}", checked.answer), format!("{stated:?}")];
-            self.demand(checked.answer == stated, question, texts, None)?;
+            demand(checked.answer == stated, question, texts)?;
         }
         let Some(stated) = &self.case.stated.rows else {
             return Ok(());
@@ -114,7 +72,7 @@ impl Hold<'_> {
             let row = words(row);
             let stated = stated.get(index).copied().unwrap_or_default();
             let texts = || [format!("{index}: {row:?}"), format!("{index}: {stated:?}")];
-            self.demand(row == stated, question, texts, None)?;
+            demand(row == stated, question, texts)?;
         }
         Ok(())
     }
@@ -129,7 +87,7 @@ impl Hold<'_> {
             let fill = random.byte();
             self.normal_form(&lent, room, fill, checked)?;
         }
-        self.demand_guarded(lent.untouched(), "normal_form's input")
+        demand_guarded(lent.untouched(), "normal_form's input")
     }
 
     fn normal_form(
@@ -145,27 +103,22 @@ impl Hold<'_> {
         let proved_answer = plain(kerbcanopy::normal_form(lent.bytes(), proved.bytes_mut()));
         let answer = reference::normal_form(&self.case.bytes, other.bytes_mut());
         let texts = || [format!("{proved_answer:?}"), format!("{answer:?}")];
-        self.demand(proved_answer == answer, &question, texts, None)?;
+        demand(proved_answer == answer, &question, texts)?;
         let texts = || [hex(proved.bytes()), hex(other.bytes())];
-        self.demand(proved.bytes() == other.bytes(), &question, texts, None)?;
+        demand(proved.bytes() == other.bytes(), &question, texts)?;
         let written = if answer.number == 0 {
             self.case.bytes.len()
         } else {
             0
         };
-        self.demand_guarded(proved.untouched_beyond(written), &question)?;
+        demand_guarded(proved.untouched_beyond(written), &question)?;
         if answer.number == 0 {
             let expected = without_reserved(&self.case.bytes, checked);
             let stated = self.case.stated.normal_form.as_ref().unwrap_or(&expected);
             let texts = || [hex(&proved.bytes()[..written]), hex(stated)];
-            self.demand(
-                proved.bytes()[..written] == **stated,
-                &question,
-                texts,
-                None,
-            )?;
+            demand(proved.bytes()[..written] == **stated, &question, texts)?;
         }
-        self.tally.normal_form(answer);
+        self.tally.form(answer);
         Ok(())
     }
 
@@ -181,15 +134,14 @@ impl Hold<'_> {
             };
             let compared = reference::compare(first.bytes(), second.bytes());
             let texts = || [format!("{proved:?}"), format!("{compared:?}")];
-            let second = Some(other.bytes());
-            self.demand(proved == compared, "compare", texts, second)?;
+            demand(proved == compared, "compare", texts)?;
             let stated = partner.equal.unwrap_or(compared.equal);
             let texts = || [format!("{proved:?}"), format!("equal: {stated}")];
             let question = "compare against the generator";
-            self.demand(compared.equal == stated, question, texts, second)?;
+            demand(compared.equal == stated, question, texts)?;
             self.tally.compared(&compared);
         }
-        self.demand_guarded(case.untouched() && other.untouched(), "compare")
+        demand_guarded(case.untouched() && other.untouched(), "compare")
     }
 }
 
@@ -259,20 +211,6 @@ fn table_text(answer: Answer, rows: impl Iterator<Item = [u16; 7]>) -> String {
         if row != [0; 7] {
             text += &format!("\n    row {index}: {row:?}");
         }
-    }
-    text
-}
-
-/// Bytes in groups of two, sixteen to a line.
-pub fn hex(bytes: &[u8]) -> String {
-    let mut text = format!("{} bytes", bytes.len());
-    for (index, byte) in bytes.iter().enumerate() {
-        text += match index % 16 {
-            0 => "\n    ",
-            2 | 4 | 6 | 8 | 10 | 12 | 14 => " ",
-            _ => "",
-        };
-        text += &format!("{byte:02X}");
     }
     text
 }

@@ -1,0 +1,93 @@
+//! Every scalar code at its edges, cut and with bytes left over; Booleans and
+//! enumerations at their limits.
+
+use super::{Both, Limits, enumeration, every_scalar, plain};
+use crate::data::scalar::{edges, numbers, value, width};
+
+pub fn add(limits: &mut Limits) {
+    for (code, tree) in every_scalar() {
+        if !matches!(code, 0x15..=0x17 | 0x21) {
+            for edge in edges(numbers(code).0) {
+                add_edge(limits, code, &tree, &edge);
+            }
+        }
+        for length in 0..width(code) {
+            let what = format!("code {code:02X}, {length} bytes");
+            limits.refused(what, &tree, zeros(length), 21, 0);
+        }
+        for more in [1, 2, 9] {
+            let what = format!("code {code:02X}, {more} bytes left over");
+            let data = zeros(width(code) + more);
+            limits.refused(what, &tree, data, 25, width(code));
+        }
+    }
+    flags(limits);
+    enumerations(limits);
+}
+
+fn zeros(length: usize) -> Both {
+    Both::new().plain(&vec![0; length])
+}
+
+/// A scalar whose last number is this one.
+fn add_edge(limits: &mut Limits, code: u8, tree: &crate::tree::Tree, edge: &[u8]) {
+    let (bytes, count) = numbers(code);
+    let mut data = Both::new();
+    for byte in 1..count as u8 {
+        data.push_number(&vec![byte; bytes]);
+    }
+    data.push_number(edge);
+    let value = value(code, &data.big);
+    let length = data.len();
+    limits.accepted(format!("code {code:02X}, {edge:02X?}"), tree, data, 1);
+    limits.part(&[], 0, length, value);
+    limits.nowhere(&[0], 0);
+    limits.nowhere(&[u32::MAX; 9], 0);
+}
+
+fn flags(limits: &mut Limits) {
+    for byte in 0..=255 {
+        let data = Both::new().plain(&[byte]);
+        let what = format!("Boolean {byte}");
+        match byte {
+            0 | 1 => {
+                limits.accepted(what, &plain(0x21), data, 1);
+                limits.part(&[], 0, 1, Some((5, u64::from(byte))));
+            }
+            _ => limits.refused(what, &plain(0x21), data, 24, 0),
+        }
+    }
+}
+
+/// Numbers around the item count, and high ones whose low bytes are below it.
+fn enumerations(limits: &mut Limits) {
+    for code in 0x15..=0x17 {
+        let bytes = width(code);
+        for items in [1, 2, 127, 128, 129, 255, 256, 257, 4000] {
+            let tree = enumeration(code, items as usize);
+            let low = items - 1;
+            for number in [
+                0,
+                1,
+                low,
+                items,
+                items + 1,
+                low | 0x8000,
+                low | 1 << 16,
+                low | 1 << 24,
+                low | 1 << 31,
+                u32::MAX,
+            ] {
+                let number = number & (u64::MAX >> (64 - 8 * bytes)) as u32;
+                let data = Both::new().number(&number.to_be_bytes()[4 - bytes..]);
+                let what = format!("number {number} of {items} items, code {code:02X}");
+                if number < items {
+                    limits.accepted(what, &tree, data, 1);
+                    limits.part(&[], 0, bytes, Some((1, u64::from(number))));
+                } else {
+                    limits.refused(what, &tree, data, 23, 0);
+                }
+            }
+        }
+    }
+}

@@ -1,0 +1,7 @@
+//! The questions about descriptors: cases, and the two held against each other
+//! over each.
+
+pub mod case;
+pub mod damage;
+pub mod hold;
+pub mod limits;
