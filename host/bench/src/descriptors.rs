@@ -2,15 +2,11 @@
 
 /// The three descriptors, from the smallest to the largest.
 pub fn all() -> [Vec<u8>; 3] {
-    [
-        descriptor(0x40, &array_words(1), "", &[number(0x0A, "")]),
-        rig(),
-        widest(),
-    ]
+    [array("", number(0x0A, "")), rig(), widest()]
 }
 
 /// A descriptor of a body, children and a name; no name where it is empty.
-fn descriptor(code: u8, body: &[u8], name: &str, children: &[Vec<u8>]) -> Vec<u8> {
+pub fn descriptor(code: u8, body: &[u8], name: &str, children: &[Vec<u8>]) -> Vec<u8> {
     let mut bytes = vec![0, 0, 0, code];
     bytes.extend(body);
     bytes.extend(children.concat());
@@ -30,24 +26,34 @@ fn array_words(dimensions: u8) -> Vec<u8> {
     [vec![0, dimensions], vec![0xFF; 4 * usize::from(dimensions)]].concat()
 }
 
-fn number(code: u8, name: &str) -> Vec<u8> {
+/// An array of one dimension.
+pub fn array(name: &str, element: Vec<u8>) -> Vec<u8> {
+    descriptor(0x40, &array_words(1), name, &[element])
+}
+
+pub fn number(code: u8, name: &str) -> Vec<u8> {
     descriptor(code, &[], name, &[])
 }
 
-fn text(name: &str) -> Vec<u8> {
+pub fn text(name: &str) -> Vec<u8> {
     descriptor(0x30, &[0xFF; 4], name, &[])
 }
 
-fn cluster(name: &str, members: &[Vec<u8>]) -> Vec<u8> {
+pub fn cluster(name: &str, members: &[Vec<u8>]) -> Vec<u8> {
     let count = (members.len() as u16).to_be_bytes();
     descriptor(0x50, &count, name, members)
+}
+
+/// A 16-bit enumeration of three items.
+pub fn states(name: &str) -> Vec<u8> {
+    let items = b"\x00\x03\x04idle\x07plating\x05rinse\x00";
+    descriptor(0x16, items, name, &[])
 }
 
 /// A record of a copper blank as a bath rig sends it.
 fn rig() -> Vec<u8> {
     let metres_per_second = [0, 2, 0, 2, 0xFF, 0xFF, 0, 3, 0, 1];
-    let states = b"\x00\x03\x04idle\x07plating\x05rinse\x00";
-    let pulses = descriptor(0x40, &array_words(1), "pulses", &[number(0x07, "")]);
+    let pulses = array("pulses", number(0x07, ""));
     let map = descriptor(0x40, &array_words(2), "thickness", &[number(0x0A, "")]);
     let bath = cluster(
         "bath",
@@ -60,7 +66,7 @@ fn rig() -> Vec<u8> {
             text("operator"),
             bath,
             descriptor(0x1A, &metres_per_second, "flow", &[]),
-            descriptor(0x16, states, "state", &[]),
+            states("state"),
             pulses,
             map,
             number(0x21, "finished"),

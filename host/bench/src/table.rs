@@ -5,7 +5,7 @@ use crate::timing::Times;
 
 pub fn print_head() {
     println!(
-        "{:<18} {:<39} {:>6} {:>12} {:>12} {:>7} {:>9}",
+        "{:<18} {:<41} {:>6} {:>12} {:>12} {:>7} {:>9}",
         "question", "case", "bytes", "kerbcanopy", "reference", "ratio", "copy"
     );
 }
@@ -13,7 +13,7 @@ pub fn print_head() {
 /// A line; the copy is that of `bytes`.
 pub fn print_line(question: &str, case: &str, bytes: &[u8], times: Times) {
     println!(
-        "{question:<18} {case:<39} {:>6} {:>12.1} {:>12.1} {:>7.2} {:>9.1}",
+        "{question:<18} {case:<41} {:>6} {:>12.1} {:>12.1} {:>7.2} {:>9.1}",
         bytes.len(),
         times.first,
         times.second,
