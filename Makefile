@@ -24,6 +24,15 @@ run: command
 	$(COMMAND) compare samples/rig.hex samples/rig-reserved.hex
 	$(COMMAND) compare samples/rig.hex samples/reader.hex || [ $$? -eq 1 ]
 	$(COMMAND) normal samples/rig-reserved.hex
+	$(COMMAND) data samples/rig.hex samples/data/rig.hex
+	$(COMMAND) data samples/rig.hex samples/data/rig-cut.hex || [ $$? -eq 1 ]
+	$(COMMAND) data samples/bath.hex samples/data/bath.hex
+	$(COMMAND) data samples/bath.hex samples/data/bath-flag.hex || [ $$? -eq 1 ]
+	$(COMMAND) value samples/rig.hex samples/data/rig.hex 1
+	$(COMMAND) value samples/bath.hex samples/data/bath.hex 2 3 || [ $$? -eq 1 ]
+	$(COMMAND) view samples/bath.hex samples/data/bath.hex 3 1
+	$(COMMAND) little samples/rig.hex samples/data/rig.hex
+	$(COMMAND) big samples/rig.hex samples/data/rig-little.hex
 
 test:
 	.ci/run

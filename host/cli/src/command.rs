@@ -1,17 +1,30 @@
-//! The three questions as commands.
+//! The command line: which question about which files.
 
-use std::ffi::OsString;
-use std::path::{Path, PathBuf};
+use std::ffi::{OsStr, OsString};
+use std::path::PathBuf;
 
-use crate::{Outcome, file, hexadecimal, listing, refusal};
+use crate::data::Inputs;
+use crate::{Outcome, descriptor};
 
 pub const USAGE: &str = "usage: kerbcanopy check FILE
        kerbcanopy compare FILE FILE
        kerbcanopy normal FILE [-o OUT]
+       kerbcanopy data DESCRIPTOR DATA
+       kerbcanopy value DESCRIPTOR DATA STEP..
+       kerbcanopy view DESCRIPTOR DATA STEP..
+       kerbcanopy little DESCRIPTOR DATA [-o OUT]
+       kerbcanopy big DESCRIPTOR DATA [-o OUT]
   check     lists the descriptor's types, or says why it is none
   compare   says whether two descriptors are equal, reserved bytes apart
   normal    gives the descriptor with every reserved byte zero: as text, or
             to the file OUT
+  data      lists what the data says under the descriptor, or says why it is
+            none
+  value     gives the number that the steps lead to
+  view      gives the bytes that the steps lead to
+  little    gives the data's little-endian form: as text, or to the file OUT
+  big       gives the data whose little-endian form is read
+A step is a member's number in a cluster or an element's in an array, from 0.
 A file holds raw bytes, or, where its name ends in .hex, hexadecimal text with
 spaces and # comments.
 Exit status: 0 accepted or equal, 1 refused or not equal, 2 a wrong use or
@@ -22,6 +35,17 @@ pub enum Command {
     Check(PathBuf),
     Compare(PathBuf, PathBuf),
     Normal(PathBuf, Option<PathBuf>),
+    /// A question about data, with the descriptor's file and the data's.
+    Data(Question, PathBuf, PathBuf),
+}
+
+#[derive(Debug, PartialEq, Eq)]
+pub enum Question {
+    Check,
+    Value(Vec<u32>),
+    View(Vec<u32>),
+    Little(Option<PathBuf>),
+    Big(Option<PathBuf>),
 }
 
 impl Command {
@@ -30,84 +54,73 @@ impl Command {
         let Some((name, rest)) = arguments.split_first() else {
             return Err("no command".into());
         };
-        match (name.to_str(), rest) {
-            (Some("check"), [path]) => Ok(Command::Check(path.into())),
-            (Some("compare"), [first, second]) => Ok(Command::Compare(first.into(), second.into())),
-            (Some("normal"), [path]) => Ok(Command::Normal(path.into(), None)),
-            (Some("normal"), [path, flag, out]) if flag == "-o" => {
-                Ok(Command::Normal(path.into(), Some(out.into())))
+        let read = match (name.to_str(), rest) {
+            (Some("check"), [path]) => Some(Command::Check(path.into())),
+            (Some("compare"), [first, second]) => {
+                Some(Command::Compare(first.into(), second.into()))
             }
-            (Some(name @ ("check" | "compare" | "normal")), _) => {
-                Err(format!("{name}: wrong arguments"))
+            (Some("normal"), [path, rest @ ..]) => {
+                out(rest).map(|out| Command::Normal(path.into(), out))
             }
-            _ => Err(format!("unknown command {}", name.display())),
-        }
+            (Some("check" | "compare" | "normal"), _) => None,
+            (Some("data" | "value" | "view" | "little" | "big"), [descriptor, data, rest @ ..]) => {
+                let question = question(name, rest)?;
+                question.map(|question| Command::Data(question, descriptor.into(), data.into()))
+            }
+            (Some("data" | "value" | "view" | "little" | "big"), _) => None,
+            _ => return Err(format!("unknown command {}", name.display())),
+        };
+        read.ok_or(format!("{}: wrong arguments", name.display()))
     }
 
     /// Runs the command, or says which file gave trouble.
     pub fn run(&self) -> Result<Outcome, String> {
         match self {
-            Command::Check(path) => check(path),
-            Command::Compare(first, second) => compare(first, second),
-            Command::Normal(path, out) => normal(path, out.as_deref()),
+            Command::Check(path) => descriptor::check(path),
+            Command::Compare(first, second) => descriptor::compare(first, second),
+            Command::Normal(path, out) => descriptor::normal(path, out.as_deref()),
+            Command::Data(question, descriptor, data) => {
+                let inputs = Inputs::read(descriptor, data)?;
+                match question {
+                    Question::Check => Ok(inputs.check()),
+                    Question::Value(steps) => Ok(inputs.value(steps)),
+                    Question::View(steps) => Ok(inputs.view(steps)),
+                    Question::Little(out) => inputs.little(out.as_deref()),
+                    Question::Big(out) => inputs.big(out.as_deref()),
+                }
+            }
         }
     }
 }
 
-fn check(path: &Path) -> Result<Outcome, String> {
-    let bytes = file::read(path)?;
-    let checked = kerbcanopy::check_descriptor(&bytes);
-    if checked.answer.number != 0 {
-        return Ok(Outcome::refused(refusal::text(
-            path,
-            &bytes,
-            checked.answer,
-        )));
-    }
-    let rows = &checked.rows[..checked.answer.place as usize];
-    let count = listing::counted(rows.len(), "type");
-    let list = listing::text(&bytes, rows);
-    Ok(Outcome::accepted(format!(
-        "{}: accepted, {count}\n{list}",
-        path.display()
-    )))
-}
-
-fn compare(first: &Path, second: &Path) -> Result<Outcome, String> {
-    let inputs = [(first, file::read(first)?), (second, file::read(second)?)];
-    let compared = kerbcanopy::compare(&inputs[0].1, &inputs[1].1);
-    if compared.answer.number != 0 {
-        let (path, bytes) = &inputs[compared.answer.input as usize - 1];
-        return Ok(Outcome::refused(refusal::text(
-            path,
-            bytes,
-            compared.answer,
-        )));
-    }
-    Ok(if compared.equal {
-        Outcome::accepted("equal\n".into())
-    } else {
-        Outcome::not_equal("not equal\n".into())
+/// The question of this name with what stands behind the two files, or none
+/// where that is of another form.
+fn question(name: &OsStr, rest: &[OsString]) -> Result<Option<Question>, String> {
+    Ok(match name.to_str() {
+        Some("data") => rest.is_empty().then_some(Question::Check),
+        Some("value") => Some(Question::Value(steps(rest)?)),
+        Some("view") => Some(Question::View(steps(rest)?)),
+        Some("little") => out(rest).map(Question::Little),
+        Some("big") => out(rest).map(Question::Big),
+        _ => None,
     })
 }
 
-/// The normal form is as long as the descriptor, so there is always room.
-fn normal(path: &Path, out: Option<&Path>) -> Result<Outcome, String> {
-    let bytes = file::read(path)?;
-    let mut form = vec![0; bytes.len()];
-    let answer = kerbcanopy::normal_form(&bytes, &mut form);
-    if answer.number != 0 {
-        return Ok(Outcome::refused(refusal::text(path, &bytes, answer)));
+/// `-o OUT` or nothing.
+fn out(rest: &[OsString]) -> Option<Option<PathBuf>> {
+    match rest {
+        [] => Some(None),
+        [flag, out] if flag == "-o" => Some(Some(out.into())),
+        _ => None,
     }
-    let Some(out) = out else {
-        return Ok(Outcome::accepted(hexadecimal::text(&form)));
+}
+
+fn steps(rest: &[OsString]) -> Result<Vec<u32>, String> {
+    let step = |text: &OsString| {
+        let number = text.to_str().and_then(|text| text.parse().ok());
+        number.ok_or(format!("{} is no step", text.display()))
     };
-    file::write(out, &form)?;
-    let length = listing::counted(form.len(), "byte");
-    Ok(Outcome::accepted(format!(
-        "{}: {length} written\n",
-        out.display()
-    )))
+    rest.iter().map(step).collect()
 }
 
 #[cfg(test)]
@@ -119,8 +132,12 @@ mod tests {
         Command::read(&arguments)
     }
 
+    fn data(question: Question) -> Result<Command, String> {
+        Ok(Command::Data(question, "a".into(), "b".into()))
+    }
+
     #[test]
-    fn each_command_is_read() {
+    fn each_command_about_descriptors_is_read() {
         assert_eq!(read(&["check", "a"]), Ok(Command::Check("a".into())));
         assert_eq!(
             read(&["compare", "a", "b"]),
@@ -137,6 +154,25 @@ mod tests {
     }
 
     #[test]
+    fn each_command_about_data_is_read() {
+        assert_eq!(read(&["data", "a", "b"]), data(Question::Check));
+        assert_eq!(read(&["value", "a", "b"]), data(Question::Value(vec![])));
+        assert_eq!(
+            read(&["value", "a", "b", "3", "4294967295"]),
+            data(Question::Value(vec![3, u32::MAX]))
+        );
+        assert_eq!(
+            read(&["view", "a", "b", "0"]),
+            data(Question::View(vec![0]))
+        );
+        assert_eq!(read(&["little", "a", "b"]), data(Question::Little(None)));
+        assert_eq!(
+            read(&["big", "a", "b", "-o", "c"]),
+            data(Question::Big(Some("c".into())))
+        );
+    }
+
+    #[test]
     fn a_wrong_use_is_named() {
         assert_eq!(read(&[]), Err("no command".into()));
         assert_eq!(read(&["look", "a"]), Err("unknown command look".into()));
@@ -144,10 +180,21 @@ mod tests {
             &["check"][..],
             &["check", "a", "b"],
             &["compare", "a"],
+            &["normal"],
             &["normal", "a", "-o"],
             &["normal", "a", "-x", "b"],
+            &["data", "a"],
+            &["data", "a", "b", "0"],
+            &["value", "a"],
+            &["view"],
+            &["little", "a", "b", "-o"],
+            &["big", "a", "b", "c"],
         ] {
             assert_eq!(read(words), Err(format!("{}: wrong arguments", words[0])));
+        }
+        for step in ["-1", "x", "4294967296", "1.5", ""] {
+            let trouble = Err(format!("{step} is no step"));
+            assert_eq!(read(&["value", "a", "b", "0", step]), trouble);
         }
     }
 }

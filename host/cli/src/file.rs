@@ -4,6 +4,7 @@ use std::fs;
 use std::path::Path;
 
 use crate::hexadecimal;
+use crate::words::counted;
 
 /// Reads a file's bytes, or says what the trouble is.
 pub fn read(path: &Path) -> Result<Vec<u8>, String> {
@@ -14,8 +15,18 @@ pub fn read(path: &Path) -> Result<Vec<u8>, String> {
     hexadecimal::bytes(&bytes).map_err(|trouble| format!("{}: {trouble}", path.display()))
 }
 
+/// The bytes as text, or a line that says that they went to the file.
+pub fn hand_over(bytes: &[u8], out: Option<&Path>) -> Result<String, String> {
+    let Some(out) = out else {
+        return Ok(hexadecimal::text(bytes));
+    };
+    write(out, bytes)?;
+    let length = counted(bytes.len(), "byte");
+    Ok(format!("{}: {length} written\n", out.display()))
+}
+
 /// Writes the bytes, as text where the name says so.
-pub fn write(path: &Path, bytes: &[u8]) -> Result<(), String> {
+fn write(path: &Path, bytes: &[u8]) -> Result<(), String> {
     let written = if is_text(path) {
         fs::write(path, hexadecimal::text(bytes))
     } else {

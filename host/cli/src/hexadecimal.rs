@@ -36,16 +36,17 @@ fn read_word(word: &[u8], bytes: &mut Vec<u8>) -> Result<(), String> {
 
 /// The bytes as text, eight words to a line.
 pub fn text(bytes: &[u8]) -> String {
-    let mut text = String::new();
-    for line in bytes.chunks(16) {
-        let words = line.chunks(2).map(|word| {
-            let digits = word.iter().map(|byte| format!("{byte:02X}"));
-            digits.collect::<String>()
-        });
-        text.push_str(&words.collect::<Vec<_>>().join(" "));
-        text.push('\n');
-    }
-    text
+    let lines = bytes.chunks(16).map(|bytes| line(bytes) + "\n");
+    lines.collect()
+}
+
+/// The bytes in one line.
+pub fn line(bytes: &[u8]) -> String {
+    let words = bytes.chunks(2).map(|word| {
+        let digits = word.iter().map(|byte| format!("{byte:02X}"));
+        digits.collect::<String>()
+    });
+    words.collect::<Vec<_>>().join(" ")
 }
 
 #[cfg(test)]

@@ -5,10 +5,15 @@
 #![forbid(unsafe_code)]
 
 mod command;
+mod content;
+mod data;
+mod descriptor;
 mod file;
 mod hexadecimal;
 mod listing;
 mod refusal;
+mod value;
+mod words;
 
 use std::io::Write;
 use std::process::ExitCode;

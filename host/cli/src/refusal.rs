@@ -1,5 +1,5 @@
 //! A refusal in plain words: the number, what it means, the input, the place
-//! and the bytes around it.
+//! and the bytes or steps around it.
 
 use std::path::Path;
 
@@ -21,6 +21,20 @@ pub fn text(path: &Path, bytes: &[u8], answer: Answer) -> String {
     )
 }
 
+/// The lines that say what was refused in the request about the file: 30 with
+/// the steps, that of the place in brackets, or 31.
+pub fn of_request(path: &Path, steps: &[u32], answer: Answer) -> String {
+    format!(
+        "{}: refused with {}: {}\n  input {}, place {}: {}\n",
+        path.display(),
+        answer.number,
+        meaning(answer.number),
+        answer.input,
+        answer.place,
+        marked(steps, answer),
+    )
+}
+
 fn meaning(number: u32) -> &'static str {
     match number {
         1 => "the descriptor has more than 4,096 bytes",
@@ -38,9 +52,30 @@ fn meaning(number: u32) -> &'static str {
         }
         11 => "what is left after the type is no name",
         12 => "bytes follow the descriptor",
+        20 => "the data has more than 65,536 bytes",
+        21 => "the data ends inside this piece",
+        22 => "a length or size is 2147483648 or more",
+        23 => "the enumeration has no item of this number",
+        24 => "the Boolean is neither 0 nor 1",
+        25 => "bytes are left over",
+        30 => "the step leads nowhere: there is no such member or element",
+        31 => "there is no single number: a string, array, cluster, extended or complex number",
         50 => "the output is too small",
         _ => "a number that this command does not know",
     }
+}
+
+/// The steps, the one that leads nowhere in brackets.
+fn marked(steps: &[u32], answer: Answer) -> String {
+    if steps.is_empty() {
+        return "no steps".into();
+    }
+    let mark = |(place, step): (usize, &u32)| match answer.number {
+        30 if place == answer.place as usize => format!("[{step}]"),
+        _ => step.to_string(),
+    };
+    let steps: Vec<String> = steps.iter().enumerate().map(mark).collect();
+    format!("steps {}", steps.join(" "))
 }
 
 /// The bytes around the place, the one there in brackets.
@@ -73,12 +108,12 @@ mod tests {
 
     #[test]
     fn every_number_has_words_of_its_own() {
-        let numbers = (1..=12).chain([50]);
+        let numbers = (1..=12).chain(20..=25).chain([30, 31, 50]);
         let mut meanings: Vec<_> = numbers.map(meaning).collect();
         assert!(!meanings.contains(&meaning(0)));
         meanings.sort();
         meanings.dedup();
-        assert_eq!(meanings.len(), 13);
+        assert_eq!(meanings.len(), 21);
     }
 
     #[test]
@@ -92,6 +127,18 @@ mod tests {
             ".. 08 09 0A 0B 0C 0D 0E 0F [10] 11 12 13 14 15 16 17 18 .."
         );
         assert_eq!(around(&bytes, 31), ".. 17 18 19 1A 1B 1C 1D 1E [1F]");
+    }
+
+    #[test]
+    fn the_step_is_marked() {
+        let refusal = |number, place| Answer {
+            number,
+            input: 4,
+            place,
+        };
+        assert_eq!(marked(&[3, 7, 0], refusal(30, 1)), "steps 3 [7] 0");
+        assert_eq!(marked(&[3, 7], refusal(31, 0)), "steps 3 7");
+        assert_eq!(marked(&[], refusal(31, 0)), "no steps");
     }
 
     #[test]

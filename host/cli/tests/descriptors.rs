@@ -1,32 +1,11 @@
-//! The command on the repository's samples: its words and its exit status.
+//! The commands about descriptors on the repository's samples: their words and
+//! their exit status; and wrong uses.
+
+mod common;
 
 use std::fs;
-use std::path::{Path, PathBuf};
-use std::process::Command;
 
-fn sample(name: &str) -> String {
-    let samples = Path::new(env!("CARGO_MANIFEST_DIR")).join("../../samples");
-    samples.join(name).display().to_string()
-}
-
-/// A path in the folder that cargo keeps for tests.
-fn scratch(name: &str) -> PathBuf {
-    Path::new(env!("CARGO_TARGET_TMPDIR")).join(name)
-}
-
-/// Runs the command: its exit status, standard output and standard error.
-fn run(arguments: &[&str]) -> (i32, String, String) {
-    let output = Command::new(env!("CARGO_BIN_EXE_kerbcanopy"))
-        .args(arguments)
-        .output()
-        .expect("the command starts");
-    let text = |bytes| String::from_utf8(bytes).expect("its words are text");
-    (
-        output.status.code().expect("it ends by itself"),
-        text(output.stdout),
-        text(output.stderr),
-    )
-}
+use common::{run, sample, scratch};
 
 #[test]
 fn an_accepted_descriptor_is_listed() {
@@ -155,7 +134,15 @@ fn trouble_with_a_file_is_2() {
 
 #[test]
 fn a_wrong_use_is_2_and_shows_the_right_one() {
-    let cases: [&[&str]; 4] = [&[], &["look"], &["check"], &["normal", "a", "b"]];
+    let cases: [&[&str]; 7] = [
+        &[],
+        &["look"],
+        &["check"],
+        &["normal", "a", "b"],
+        &["data", "a"],
+        &["value", "a", "b", "c"],
+        &["little", "a", "b", "-o"],
+    ];
     for arguments in cases {
         let (status, answer, trouble) = run(arguments);
         assert_eq!((status, answer.as_str()), (2, ""), "{arguments:?}");
