@@ -57,16 +57,29 @@ pub fn plain(answer: kerbcanopy::Answer) -> reference::Answer {
     }
 }
 
+/// How many bytes of an input or output are shown.
+const SHOWN: usize = 512;
+
+/// Two outputs as texts, from the first byte on that differs.
+pub fn outputs(proved: &[u8], other: &[u8]) -> [String; 2] {
+    let mut pairs = proved.iter().zip(other);
+    let place = pairs.position(|(one, other)| one != other).unwrap_or(0);
+    [proved, other].map(|bytes| format!("from byte {place}, {}", hex(&bytes[place..])))
+}
+
 /// Bytes in groups of two, sixteen to a line.
-pub fn hex(bytes: &[u8]) -> String {
+fn hex(bytes: &[u8]) -> String {
     let mut text = format!("{} bytes", bytes.len());
-    for (index, byte) in bytes.iter().enumerate() {
+    for (index, byte) in bytes.iter().take(SHOWN).enumerate() {
         text += match index % 16 {
             0 => "\n    ",
             2 | 4 | 6 | 8 | 10 | 12 | 14 => " ",
             _ => "",
         };
         text += &format!("{byte:02X}");
+    }
+    if bytes.len() > SHOWN {
+        text += "\n    ..";
     }
     text
 }

@@ -5,7 +5,7 @@ use reference::Answer;
 
 use super::answers::{accepted, demand_same, request};
 use super::case::Case;
-use crate::difference::{Held, demand, demand_guarded, hex, plain};
+use crate::difference::{Held, demand, demand_guarded, outputs, plain};
 use crate::lent::{Around, Lent};
 use crate::random::Random;
 use crate::tally::Tally;
@@ -117,7 +117,7 @@ impl Form {
             (self.other)(descriptor, data, &mut other),
             &question,
         )?;
-        let texts = || [hex(proved.bytes()), hex(&other)];
+        let texts = || outputs(proved.bytes(), &other);
         demand(proved.bytes() == other, &question, texts)?;
         let length = data.len();
         let written = if answer.number == 0 { length } else { 0 };
@@ -127,7 +127,7 @@ impl Form {
             demand_same(answer, in_room(checked, length, room), &question)?;
         }
         if let (0, Some(stated)) = (answer.number, asked.written) {
-            let texts = || [hex(&proved.bytes()[..written]), hex(stated)];
+            let texts = || outputs(&proved.bytes()[..written], stated);
             demand(proved.bytes()[..written] == *stated, &question, texts)?;
         }
         Ok(answer)

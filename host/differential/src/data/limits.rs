@@ -30,10 +30,9 @@ pub struct Limit {
     pub asks: Vec<Ask>,
 }
 
-/// All limits, always in the same order.
+/// All limits, always in the same order, the longest data last.
 pub fn all() -> Vec<Limit> {
     let mut limits = Limits(Vec::new());
-    lengths::add(&mut limits);
     scalars::add(&mut limits);
     strings::add(&mut limits);
     arrays::add(&mut limits);
@@ -42,6 +41,7 @@ pub fn all() -> Vec<Limit> {
     cuts::add(&mut limits);
     paths::add(&mut limits);
     order::add(&mut limits);
+    lengths::add(&mut limits);
     limits.0
 }
 

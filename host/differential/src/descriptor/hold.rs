@@ -4,7 +4,7 @@
 use reference::{Answer, MOST_ROWS};
 
 use super::case::{Case, Partner};
-use crate::difference::{Held, demand, demand_guarded, hex, plain};
+use crate::difference::{Held, demand, demand_guarded, outputs, plain};
 use crate::lent::{Around, Lent};
 use crate::random::Random;
 use crate::tally::Tally;
@@ -104,7 +104,7 @@ impl Hold<'_> {
         let answer = reference::normal_form(&self.case.bytes, other.bytes_mut());
         let texts = || [format!("{proved_answer:?}"), format!("{answer:?}")];
         demand(proved_answer == answer, &question, texts)?;
-        let texts = || [hex(proved.bytes()), hex(other.bytes())];
+        let texts = || outputs(proved.bytes(), other.bytes());
         demand(proved.bytes() == other.bytes(), &question, texts)?;
         let written = if answer.number == 0 {
             self.case.bytes.len()
@@ -115,7 +115,7 @@ impl Hold<'_> {
         if answer.number == 0 {
             let expected = without_reserved(&self.case.bytes, checked);
             let stated = self.case.stated.normal_form.as_ref().unwrap_or(&expected);
-            let texts = || [hex(&proved.bytes()[..written]), hex(stated)];
+            let texts = || outputs(&proved.bytes()[..written], stated);
             demand(proved.bytes()[..written] == **stated, &question, texts)?;
         }
         self.tally.form(answer);
