@@ -2,9 +2,9 @@
  * Kerbcanopy: reads LabVIEW type descriptors and flattened data. Any bytes may come.
  *
  * Every function takes bytes, or a path's steps, as a pointer and a length, and asks of the caller only what C can't show: that the
- * pointer is not NULL (that of a path being aligned), that as many of them can be read, or in an output written, as the length says,
- * that nothing else changes them during the call, and that an input and an output do not overlap. Nothing is kept between calls, and
- * nothing is allocated.
+ * pointer is not NULL (and that of a path aligned), that as many of them can be read, or in an output written, as the length says, that
+ * nothing else changes them during the call, and that an input and an output do not overlap. Nothing is kept between calls, and nothing
+ * is allocated.
  *
  * Every answer has a number, the input at fault and a place.
  *
@@ -119,7 +119,8 @@ kc_answer kc_normal_form(const uint8_t *descriptor, size_t descriptor_len, uint8
  * Walks data under a descriptor. Numbers are big-endian, as wide as their code says: 1, 2, 4, 8 bytes for 01 to 04 and again for 05 to
  * 08; 4, 8, 16 for 09 to 0B and 19 to 1B; 8, 16, 32 for 0C to 0E and 1C to 1E; 1, 2, 4 for 15 to 17; 1 for 21. A string is a 32-bit
  * length and its characters; an array is one 32-bit size for each dimension, then the elements, last dimension fastest; a cluster is
- * its members in order. Each piece starts exactly where the one before it ended, and together the pieces are the whole data.
+ * its members in order. Lengths and sizes are below 2^31, an enumeration's number is below its item count, a Boolean's byte is 0 for
+ * false or 1 for true. Each piece starts exactly where the one before it ended, and together the pieces are the whole data.
  *
  * Accepted: number 0, input 0, and the place is the piece count.
  * Refused: 1 to 12 with input 1, or 20 to 25 with input 3.
