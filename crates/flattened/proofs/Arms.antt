@@ -1,27 +1,22 @@
 -- The walk, the rule and the extent of a type by the kind of its code. Rests on the definitions, and on how a scalar is judged.
-use mathlib.Core.Path.{_≡_, refl, sym, ap, _∙_}
+use mathlib.Core.Path.{_≡_, refl, ap}
 use mathlib.Core.Bool.{Bool, true, false, cond}
-use mathlib.Core.List.{List, _∷_}
+use mathlib.Core.List.{List}
 use mathlib.Core.Logic.{_⊎_, inl, inr}
-use Prim.Native.Nat.{ℕ, _+_, _*_, _<_, _≤_}
+use Prim.Native.Nat.{ℕ}
 use native.Mathlib.Omega.{arith}
 use borrow.Author.Tests.{eqb-true}
 use lib.Dec.{eqb}
-use lib.ListN.{length}
-use Rattle.descriptor.specs.Codes.{Kind, plain, enumeration, quantity, string, array, cluster, unknown, kindOf, booleanCode}
+use Rattle.descriptor.specs.Codes.{enumeration, string, array, cluster, kindOf, booleanCode}
 use Rattle.descriptor.specs.Tree.{Name, Fields, empty, items, pairs, text, dimensions, members, Tree, node, Forest, nil, cons, countOf}
-use Rattle.descriptor.specs.Outcome.{Outcome, refused, read, andThen}
 use Rattle.descriptor.specs.Width.{widthOf}
 use Rattle.flattened.specs.Order.{Order}
-use Rattle.flattened.specs.Token.{Token, sizes}
-use Rattle.flattened.specs.Walk.{token, textAt, arrayAt, follow, repeat, walkFields, walk, walkAll}
+use Rattle.flattened.specs.Walk.{textAt, walkFields, walk, walkAll}
 use Rattle.flattened.specs.inner.Extent.{isScalar, ruleOf, judges, extentFields, extentOf, extentAll}
 use Rattle.flattened.specs.inner.Arrays.{elementsAt}
 use Rattle.flattened.specs.inner.Types.{fieldsKind}
-use Rattle.flattened.specs.declared.extent.Rule.{Rule}
 use Rattle.flattened.specs.declared.extent.Rule.the-variants.{Any, Below}
-use Rattle.flattened.specs.declared.extent.Extent.{Extent}
-use Rattle.flattened.specs.declared.extent.Extent.the-variants.{Varies, Fixed}
+use Rattle.flattened.specs.declared.extent.Extent.the-variants.{Fixed}
 use Rattle.flattened.proofs.Codes.{isMeasured}
 use Rattle.flattened.proofs.Judged.{ruledAt, scalar-ruled}
 use Rattle.flattened.proofs.Repeats.{follow-last}
@@ -95,14 +90,6 @@ module _ (c : ℕ) (b : Fields) (f : Forest) (m : Name) where
       go text e = cc
       go (dimensions k) e = cc
       go (members k) e = cc
-
-  pub extent-text : fieldsKind b ≡ string → extentOf (node c b f m) ≡ Varies
-  unfolding extentOf extentFields
-  extent-text e = ap (λ (x : Fields). extentOf (node c x f m)) (is-text b e)
-
-  pub extent-array : fieldsKind b ≡ array → extentOf (node c b f m) ≡ Varies
-  unfolding extentOf extentFields
-  extent-array e = ap (λ (x : Fields). extentOf (node c x f m)) (is-dimensions b e)
 
   pub extent-cluster : fieldsKind b ≡ cluster → extentOf (node c b f m) ≡ extentAll f
   unfolding extentOf extentFields

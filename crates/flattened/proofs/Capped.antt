@@ -2,7 +2,7 @@
 -- has bytes are refused alike, however many they are. Rests on the definitions of the walk alone.
 use mathlib.Core.Path.{_≡_, refl, ap}
 use mathlib.Core.List.{List, _++_}
-use Prim.Native.Nat.{ℕ, zero, suc, _+_, _^_, _<_, _≤_, min}
+use Prim.Native.Nat.{ℕ, zero, suc, _+_, _<_, _≤_, min}
 use native.Mathlib.Nat.{min-eq-left, min-eq-right}
 use native.Mathlib.Decide.{decLe}
 use native.Mathlib.Omega.{arith}
@@ -12,6 +12,7 @@ use Rattle.descriptor.specs.Outcome.{Outcome, read, andThen}
 use Rattle.descriptor.proofs.Outcomes.{Holds, nothing, reading}
 use Rattle.flattened.specs.Token.{Token}
 use Rattle.flattened.specs.Walk.{follow, repeat}
+use Rattle.flattened.specs.inner.Sizes.{elementCap}
 use Rattle.flattened.proofs.Forward.{Forward}
 
 module _ (s : List ℕ) (f : ℕ → Outcome (List Token)) (each : (a : ℕ) → a ≤ length s → Holds (λ q ts. Forward s 1 a q ts) (f a)) where
@@ -31,11 +32,11 @@ module _ (s : List ℕ) (f : ℕ → Outcome (List Token)) (each : (a : ℕ) →
           ap (λ (u : Outcome (List Token)). andThen u (λ last us. read last (ts ++ us))) (rest q ts e)
 
   -- the count, or the count cut at 2^32
-  pub repeat-capped : length s ≤ dataLimit → (n at : ℕ) → at ≤ length s → repeat f n at ≡ repeat f (min n (2 ^ 32)) at
-  repeat-capped short n at h = go (decLe n (2 ^ 32))
+  pub repeat-capped : length s ≤ dataLimit → (n at : ℕ) → at ≤ length s → repeat f n at ≡ repeat f (min n elementCap) at
+  repeat-capped short n at h = go (decLe n elementCap)
     where
-      go : Dec (n ≤ 2 ^ 32) → repeat f n at ≡ repeat f (min n (2 ^ 32)) at
+      go : Dec (n ≤ elementCap) → repeat f n at ≡ repeat f (min n elementCap) at
       go (yes l) = rw (min-eq-left l) refl
       go (no l) =
-          let over : 2 ^ 32 ≤ n = omega arith in
-          rw (min-eq-right over) (repeat-beyond n (2 ^ 32) at h (omega arith) (omega arith))
+          let over : elementCap ≤ n = omega arith in
+          rw (min-eq-right over) (repeat-beyond n elementCap at h (omega arith) (omega arith))

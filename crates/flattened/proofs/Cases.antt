@@ -1,13 +1,12 @@
 -- The walk, the rule and the extent of a type that stands in accepted bytes, by what the code reads of it. Rests on what such a type is made of.
-use mathlib.Core.Path.{_≡_, refl, sym, ap, subst, _∙_}
+use mathlib.Core.Path.{_≡_, refl, sym, ap, _∙_}
 use mathlib.Core.Bool.{Bool, true, false, cond}
 use mathlib.Core.List.{List}
 use mathlib.Core.Logic.{_⊎_, ⊎-elim}
-use Prim.Native.Nat.{ℕ, _+_, _-_, _<_, _≤_}
+use Prim.Native.Nat.{ℕ, _-_, _<_}
 use native.Mathlib.Omega.{arith}
 use borrow.Author.Tests.{eq-eqb, ne-eqb}
 use lib.Dec.{eqb}
-use lib.ListN.{length}
 use Rattle.descriptor.specs.Codes.{Kind, plain, enumeration, quantity, string, array, cluster, unknown, kindOf, booleanCode}
 use Rattle.descriptor.specs.Header.{codeIn}
 use Rattle.descriptor.specs.Tree.{Name, Fields, empty, items, pairs, text, dimensions, members, Tree, node, Forest, countOf, childCount, insideAt}
@@ -116,15 +115,10 @@ module _ (d : List ℕ) (p : ℕ) (here : Stands d p) where
       ∙ ap (λ (c : ℕ). ruledAt o c s at (ruleOf c (it .fields))) (it .coded)
       ∙ ap (λ (r : Rule). ruledAt o (codeIn d p) s at r) (sym ruled)
 
-  -- a type that has a rule is a scalar, of one, two or four bytes
+  -- a type that has a rule is of one, two or four bytes
   module _ (limit number : ℕ) (rule : Below limit number ≡ typeRule (typeAt d p)) where
     which : (enumeration ≡ kindOf (codeIn d p)) ⊎ (codeIn d p ≡ booleanCode)
     which = below-kind (codeIn d p) (it .fields) limit number (it .kind) (rule ∙ ruled)
-
-    pub rule-width : 0 < widthOf (codeIn d p)
-    unfolding kindOf isMeasured
-    rule-width =
-        ⊎-elim (λ e. some-width (codeIn d p) (sym (ap isMeasured e))) (λ e. some-width (codeIn d p) (ap (λ (c : ℕ). isMeasured (kindOf c)) e)) which
 
     pub rule-narrow : Narrow (widthOf (codeIn d p))
     rule-narrow = ⊎-elim (λ e. enumeration-narrow (codeIn d p) (sym e)) (λ e. boolean-narrow (codeIn d p) e) which

@@ -2,20 +2,18 @@
 -- Rests on what an accepted descriptor's type is, and on what the walk comes to.
 use mathlib.Core.Path.{_≡_, refl, sym, ap, _∙_}
 use mathlib.Core.List.{List}
-use Prim.Native.Nat.{ℕ, _+_, _^_, _<_, _≤_}
+use Prim.Native.Nat.{ℕ, _<_, _≤_}
 use native.Mathlib.Omega.{arith}
 use borrow.Author.Tests.{le-leb, lt-leb, eq-eqb, ne-eqb}
 use lib.ListN.{length}
 use Rattle.descriptor.specs.Limits.{depthLimit, dataLimit}
 use Rattle.descriptor.specs.Tree.{Tree}
-use Rattle.descriptor.specs.Outcome.{Outcome, refused, read}
+use Rattle.descriptor.specs.Outcome.{refused, read}
 use Rattle.descriptor.specs.Check.{checked}
 use Rattle.descriptor.specs.Answers.{refusal, accepted}
-use Rattle.descriptor.specs.inner.Standing.{standing, isRead}
-use Rattle.descriptor.specs.declared.answer.Answer.{Answer}
+use Rattle.descriptor.specs.inner.Standing.{isRead}
 use Rattle.descriptor.proofs.Standing.{accepted-standing, standing-low}
 use Rattle.flattened.specs.Order.{Order, big}
-use Rattle.flattened.specs.Token.{Token}
 use Rattle.flattened.specs.Walk.{repeat, walk, walked}
 use Rattle.flattened.specs.Answers.{dataCheck}
 use Rattle.flattened.specs.inner.Checks.{orderedCheck}

@@ -1,14 +1,13 @@
 -- What the loop over the types of a row keeps: their extent so far, and that of the types that are left, are the extent of all. Each
 -- scalar has a header of four bytes for its at most 32 bytes of data, so the sums stay small. Rests on what types are made of.
-use mathlib.Core.Path.{_≡_, refl, sym, ap, ap₂, subst, _∙_}
+use mathlib.Core.Path.{_≡_, refl, sym, ap, subst, _∙_}
 use mathlib.Core.Bool.{Bool, true, false, _||_}
 use mathlib.Core.List.{List}
-use Prim.Native.Nat.{ℕ, zero, suc, _+_, _-_, _*_, _<_, _≤_}
+use Prim.Native.Nat.{ℕ, suc, _+_, _-_, _*_, _<_, _≤_}
 use native.Mathlib.Nat.{sub-zero}
 use native.Mathlib.Omega.{arith}
-use lib.ListN.{length}
 use Rattle.descriptor.specs.Header.{sizeIn}
-use Rattle.descriptor.specs.Tree.{Fields, empty, items, pairs, text, dimensions, members, Tree, node, Forest, nil, cons, treeSize, forestSize, forestLength}
+use Rattle.descriptor.specs.Tree.{empty, items, pairs, text, dimensions, members, Tree, node, Forest, nil, cons, treeSize, forestSize, forestLength}
 use Rattle.descriptor.specs.inner.Standing.{forestOf}
 use Rattle.descriptor.proofs.Standing.{row-none}
 use Rattle.flattened.specs.inner.Types.{typeAt, typesAt, TypeStands, RowStands, SolidFields, Solid, AllSolid}

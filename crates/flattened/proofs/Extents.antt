@@ -1,8 +1,8 @@
 -- The one law of extents, over the type: where a type's extent is fixed, a walk of it that reads ends that many bytes on with that many
 -- tokens, and it does read where the bytes are there and nothing is judged. Rests on how a scalar is judged.
-use mathlib.Core.Path.{_≡_, refl, sym, ap, _∙_}
+use mathlib.Core.Path.{_≡_, refl, ap}
 use mathlib.Core.Bool.{Bool, true, false, _||_}
-use mathlib.Core.List.{List, [], _∷_}
+use mathlib.Core.List.{List, []}
 use Prim.Native.Nat.{ℕ, zero, suc, _+_, _*_, _<_, _≤_}
 use native.Mathlib.Nat.{suc-mul, mul-le-mul-right}
 use native.Mathlib.Omega.{arith}
@@ -10,7 +10,7 @@ use lib.Dec.{leb}
 use lib.ListN.{length, length-append}
 use Rattle.descriptor.specs.Tree.{Fields, empty, items, pairs, text, dimensions, members, Tree, node, Forest, nil, cons}
 use Rattle.descriptor.specs.Outcome.{Outcome}
-use Rattle.descriptor.proofs.Outcomes.{Holds, found, holds-require, holds-andThen, holds-weaken}
+use Rattle.descriptor.proofs.Outcomes.{Holds, found, holds-require, holds-andThen}
 use Rattle.descriptor.specs.Width.{widthOf}
 use Rattle.flattened.specs.Order.{Order, numberAt}
 use Rattle.flattened.specs.Token.{Token}
@@ -22,7 +22,7 @@ use Rattle.flattened.specs.declared.extent.Rule.the-variants.{Any, Below
 use Rattle.flattened.specs.declared.extent.Extent.{Extent}
 use Rattle.flattened.specs.declared.extent.Extent.the-variants.{Varies, Fixed}
 use Rattle.flattened.proofs.Repeats.{reads-at, reads-follow, repeat-run}
-use Rattle.flattened.proofs.Judged.{ruledAt, scalar-ruled, ruled-read}
+use Rattle.flattened.proofs.Judged.{scalar-ruled, ruled-read}
 
 -- w bytes and k tokens from `from` on, up to q
 pub record Ends (w k from q : ℕ) (ts : List Token) : Type 0 where

@@ -2,7 +2,7 @@
 -- and not before its start has been passed by as many bytes as it read tokens. Rests on the definitions of the walk.
 use mathlib.Core.Path.{_≡_, refl}
 use mathlib.Core.Bool.{Bool, not, _||_}
-use mathlib.Core.List.{List, [], _∷_, _++_}
+use mathlib.Core.List.{List}
 use Prim.Native.Nat.{ℕ, zero, suc, _+_, _*_, _<_, _≤_}
 use native.Mathlib.Omega.{arith}
 use borrow.Author.Tests.{leb-true}
@@ -11,7 +11,7 @@ use lib.ListN.{length, getD, length-append}
 use Rattle.descriptor.specs.Codes.{booleanCode}
 use Rattle.descriptor.specs.Tree.{Fields, empty, items, pairs, text, dimensions, members, Tree, node, Forest, nil, cons, forestLength}
 use Rattle.descriptor.specs.Outcome.{Outcome}
-use Rattle.descriptor.proofs.Outcomes.{Holds, found, holds-require, holds-andThen, holds-weaken, holds-read}
+use Rattle.descriptor.proofs.Outcomes.{Holds, found, holds-require, holds-andThen, holds-weaken}
 use Rattle.descriptor.specs.Width.{widthOf}
 use Rattle.descriptor.specs.Limits.{lengthLimit}
 use Rattle.flattened.specs.Order.{Order, numberAt}

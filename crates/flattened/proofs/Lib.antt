@@ -20,3 +20,4 @@ pub mod Scalars
 pub mod Passing
 pub mod Walks
 pub mod Checking
+pub mod Named

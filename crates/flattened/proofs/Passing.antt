@@ -1,7 +1,7 @@
 -- Elements that are passed in one step are those that the walk reads, element by element; and an array is its size words, those elements,
 -- and the walk of the others. Rests on the laws of extents, of the largest number, of the capped count and of rows split in two.
-use mathlib.Core.Path.{_≡_, refl, sym, ap, ap₂, subst, _∙_}
-use mathlib.Core.Bool.{Bool, true, false}
+use mathlib.Core.Path.{_≡_, refl, sym, ap, subst, _∙_}
+use mathlib.Core.Bool.{true, false}
 use mathlib.Core.List.{List, [], _∷_}
 use Prim.Native.Nat.{ℕ, suc, _+_, _-_, _*_, _/_, _<_, _≤_, min}
 use native.Mathlib.Nat.{add-zero, mul-le-mul-right, div-mul-le-self, div-lt-iff-lt-mul}
@@ -16,7 +16,6 @@ use Rattle.descriptor.specs.Tree.{Tree}
 use Rattle.descriptor.specs.Outcome.{Outcome, refused, read, andThen}
 use Rattle.descriptor.specs.inner.Standing.{Stands}
 use Rattle.descriptor.proofs.Outcomes.{Holds, holds-read}
-use Rattle.descriptor.proofs.Steps.{impossible}
 use Rattle.flattened.specs.Order.{Order}
 use Rattle.flattened.specs.Token.{Token, sizes}
 use Rattle.flattened.specs.Walk.{token, arrayAt, repeat, walk}
@@ -24,7 +23,7 @@ use Rattle.flattened.specs.inner.Cursor.{cursor}
 use Rattle.flattened.specs.inner.Progress.{progress, plus, Reads}
 use Rattle.flattened.specs.inner.Sizes.{elementCap, cappedSizes}
 use Rattle.flattened.specs.inner.Extent.{typeRule, judges, extentOf}
-use Rattle.flattened.specs.inner.Types.{typeAt, TypeStands, Solid}
+use Rattle.flattened.specs.inner.Types.{typeAt, Solid}
 use Rattle.flattened.specs.inner.Largest.{largest}
 use Rattle.flattened.specs.inner.Arrays.{elementsAt, allKeep, Passes, resumed, Resumable, FrontMet}
 use Rattle.flattened.specs.declared.arrays.Front.the-variants.{Over, Rest}
@@ -33,16 +32,15 @@ use Rattle.flattened.specs.declared.cursor.Cursor.{Cursor}
 use Rattle.flattened.specs.declared.extent.Rule.{Rule}
 use Rattle.flattened.specs.declared.extent.Rule.the-variants.{Any, Below}
 use Rattle.flattened.specs.declared.extent.Extent.the-variants.{Fixed}
-use Rattle.flattened.specs.declared.progress.Progress.{Progress}
 use Rattle.flattened.specs.declared.progress.Progress.the-variants.{Walked, Refused}
 use Rattle.flattened.specs.declared.sizes.Sizes.the-variants as counted
 use Rattle.flattened.proofs.Capped.{repeat-capped}
-use Rattle.flattened.proofs.Cases.{extent-number, rule-width, walk-number}
+use Rattle.flattened.proofs.Cases.{extent-number, walk-number}
 use Rattle.flattened.proofs.Extents.{run-reads}
-use Rattle.flattened.proofs.Forward.{Forward, walk-forward, repeat-forward, sizes-end}
+use Rattle.flattened.proofs.Forward.{walk-forward, repeat-forward, sizes-end}
 use Rattle.flattened.proofs.Judged.{ruledAt}
 use Rattle.flattened.proofs.Maxima.{judged-run}
-use Rattle.flattened.proofs.Progresses.{plus-plus, follow-reads, reads-progress}
+use Rattle.flattened.proofs.Progresses.{plus-plus, follow-reads}
 use Rattle.flattened.proofs.Repeats.{reads-at, repeat-split}
 
 -- m values of the type t, of w bytes and k tokens each

@@ -1,8 +1,8 @@
 -- What the loop over an array's size words keeps: the sizes that are left fit where all do, and the capped product so far times theirs
 -- is the capped product of all. Rests on the definitions of the size words.
-use mathlib.Core.Path.{_≡_, refl, sym, ap, ap₂, subst, _∙_}
-use mathlib.Core.Bool.{Bool, true, false, _&&_}
-use mathlib.Core.List.{List, [], _∷_}
+use mathlib.Core.Path.{_≡_, refl, sym, ap, ap₂, _∙_}
+use mathlib.Core.Bool.{true, false}
+use mathlib.Core.List.{List, _∷_}
 use Prim.Native.Nat.{ℕ, zero, suc, _+_, _-_, _*_, _<_, _≤_, min}
 use native.Mathlib.Nat.{sub-zero, mul-zero, mul-suc, mul-assoc, mul-one, one-mul, min-eq-left, min-eq-right}
 use native.Mathlib.Decide.{decLe}

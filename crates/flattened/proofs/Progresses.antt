@@ -26,12 +26,7 @@ unfolding plus
 plus-none (Walked c n) = ap (λ (m : ℕ). Walked c m) (let e : n ≡ 0 + n = omega arith in e)
 plus-none (Refused number place) = refl
 
--- a reading, and its progress
-pub reads-progress : {o : Outcome (List Token)} {q k : ℕ} → Reads o q k → progress o ≡ Walked (cursor q) k
-unfolding progress
-reads-progress {q = q} r = ap progress (r .eq) ∙ ap (λ (n : ℕ). Walked (cursor q) n) (r .count)
-
--- and back
+-- a reading, by its progress
 pub progress-reads : (o : Outcome (List Token)) (c : Cursor) (k : ℕ) → Walked c k ≡ progress o → Reads o (c .at) k
 unfolding progress
 progress-reads (refused number place) c k e = absurd (let z : _≡_ {A = ℕ} 0 1 = cc in omega arith)

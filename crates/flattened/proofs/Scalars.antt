@@ -7,10 +7,8 @@ use borrow.Author.Tests.{lt-ltb, le-ltb}
 use lib.ListN.{length}
 use Rattle.descriptor.specs.Header.{codeIn}
 use Rattle.descriptor.specs.Width.{widthOf}
-use Rattle.descriptor.specs.Outcome.{Outcome}
 use Rattle.descriptor.specs.inner.Standing.{Stands}
 use Rattle.flattened.specs.Order.{Order, numberAt}
-use Rattle.flattened.specs.Token.{Token}
 use Rattle.flattened.specs.Walk.{walk}
 use Rattle.flattened.specs.inner.Cursor.{cursor}
 use Rattle.flattened.specs.inner.Extent.{typeRule, keeps, refusedBy}

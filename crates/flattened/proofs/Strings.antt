@@ -1,6 +1,6 @@
 -- A string's progress by the steps of the cursor: its length word, a length that is carried, its characters. Rests on the definition of
 -- the walk and on what the cursor's steps say.
-use mathlib.Core.Path.{_≡_, sym, ap, _∙_}
+use mathlib.Core.Path.{_≡_, ap, _∙_}
 use mathlib.Core.List.{List}
 use Prim.Native.Nat.{ℕ, _+_, _<_, _≤_}
 use native.Mathlib.Omega.{arith}

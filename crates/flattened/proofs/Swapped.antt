@@ -8,7 +8,7 @@ use native.Mathlib.Omega.{arith}
 use lib.ListN.{getD}
 use Rattle.number.specs.Endian.{be, le}
 use Rattle.number.proofs.Reading.{be-split}
-use Rattle.flattened.specs.Order.{Order, numberAt}
+use Rattle.flattened.specs.Order.{numberAt}
 use Rattle.flattened.specs.inner.Order.{orderOf, swapped}
 use Rattle.flattened.specs.declared.order.Order as code
 use Rattle.flattened.specs.declared.order.Order.the-variants.{Big, Little}

@@ -1,8 +1,8 @@
 -- What a loop over n walks of one kind keeps: the tokens so far, and the progress of the walks that are left, are the progress of all.
 -- Rests on the laws of progress.
-use mathlib.Core.Path.{_≡_, refl, sym, ap, _∙_}
+use mathlib.Core.Path.{_≡_, sym, ap, _∙_}
 use mathlib.Core.List.{List}
-use Prim.Native.Nat.{ℕ, zero, suc, _+_, _-_, _<_, _≤_}
+use Prim.Native.Nat.{ℕ, suc, _+_, _-_, _<_, _≤_}
 use native.Mathlib.Nat.{sub-zero}
 use native.Mathlib.Omega.{arith}
 use Rattle.descriptor.specs.Outcome.{Outcome}
@@ -11,7 +11,6 @@ use Rattle.flattened.specs.Walk.{follow, repeat}
 use Rattle.flattened.specs.inner.Cursor.{cursor}
 use Rattle.flattened.specs.inner.Progress.{progress, plus}
 use Rattle.flattened.specs.declared.cursor.Cursor.{Cursor}
-use Rattle.flattened.specs.declared.progress.Progress.{Progress}
 use Rattle.flattened.specs.declared.progress.Progress.the-variants.{Walked, Refused}
 use Rattle.flattened.proofs.Progresses.{plus-plus, plus-none, follow-walked, follow-refused}
 

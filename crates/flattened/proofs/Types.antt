@@ -1,26 +1,24 @@
 -- What a type that stands in accepted bytes is made of, and the types of a row one by one: the kind of its code has its fields, and every
 -- token of it takes at least one byte. Rests on the descriptor crate's laws of what stands inside accepted bytes.
-use mathlib.Core.Path.{_≡_, refl, sym, ap, subst, _∙_}
-use mathlib.Core.Bool.{Bool, true, false}
+use mathlib.Core.Path.{_≡_, refl, sym, ap, _∙_}
+use mathlib.Core.Bool.{true}
 use mathlib.Core.List.{List}
-use Prim.Native.Nat.{ℕ, zero, suc, _+_, _-_, _*_, _%_, _<_, _≤_}
+use Prim.Native.Nat.{ℕ, zero, suc, _+_, _-_, _<_, _≤_}
 use native.Mathlib.Omega.{arith}
 use lib.Dec.{leb}
 use lib.ListN.{length}
 use Rattle.descriptor.specs.Limits.{dimensionLimit, pairLimit, countLimit}
 use Rattle.descriptor.specs.Codes.{Kind, plain, enumeration, quantity, string, array, cluster, unknown, kindOf}
 use Rattle.descriptor.specs.Header.{bodyAt, sizeIn, codeIn}
-use Rattle.descriptor.specs.Tree.{Name, Fields, empty, items, pairs, text, dimensions, members, Tree, node, Forest, nil, cons, countOf, childCount, insideAt, treeSize, forestSize, forestLength, height, forestHeight}
+use Rattle.descriptor.specs.Tree.{Name, Fields, empty, items, pairs, text, dimensions, members, Tree, node, Forest, nil, cons, countOf, childCount, insideAt, treeSize, forestLength, height, forestHeight}
 use Rattle.descriptor.specs.Outcome.{Outcome, refused, read, andThen}
 use Rattle.descriptor.specs.Check.{countAt, runAt, itemsAt, fieldsRead, contentsAt, filledAt, fieldsAt, membersAt}
 use Rattle.descriptor.specs.inner.Standing.{standing, standingRow, isRead, nextOf, forestOf, fieldsOf, contentsStart, insideOf, Stands}
-use Rattle.descriptor.specs.declared.inside.Inside.{Inside}
 use Rattle.descriptor.proofs.Outcomes.{Holds, nothing, found, holds-read, holds-self, holds-require, holds-andThen}
 use Rattle.descriptor.proofs.Sizes.{count-fits, run-fits}
 use Rattle.descriptor.proofs.Bodies.{seen, header-room}
 use Rattle.descriptor.proofs.Steps.{impossible}
-use Rattle.descriptor.proofs.Standing.{open-standing, standing-ends, row-split, row-first, row-none, row-ends}
-use Rattle.descriptor.specs.Width.{widthOf}
+use Rattle.descriptor.proofs.Standing.{open-standing, standing-ends, row-split, row-first, row-ends}
 use Rattle.flattened.specs.inner.Types.{typeOf, typeAt, typesAt, TypeStands, RowStands, fieldsKind, SolidFields, Solid, AllSolid}
 use Rattle.flattened.proofs.Codes.{isMeasured, some-width}
 

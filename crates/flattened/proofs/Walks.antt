@@ -1,9 +1,9 @@
 -- The walk of a type that stands in accepted bytes, by its kind, and what the loops over the types of a row and over rows keep: the tokens
 -- so far, and the progress of what is left, are the progress of all. Rests on what types are made of, and on the laws of progress.
 use mathlib.Core.Path.{_≡_, refl, sym, ap, subst, _∙_}
-use mathlib.Core.Bool.{Bool, true}
+use mathlib.Core.Bool.{true}
 use mathlib.Core.List.{List}
-use Prim.Native.Nat.{ℕ, zero, suc, _+_, _-_, _^_, _<_, _≤_}
+use Prim.Native.Nat.{ℕ, suc, _+_, _-_, _<_, _≤_}
 use native.Mathlib.Nat.{sub-zero}
 use native.Mathlib.Omega.{arith}
 use lib.ListN.{length}
@@ -14,14 +14,14 @@ use Rattle.descriptor.specs.Tree.{Fields, empty, items, pairs, text, dimensions
 use Rattle.descriptor.specs.Outcome.{Outcome}
 use Rattle.descriptor.specs.inner.Standing.{forestOf, insideOf, Stands}
 use Rattle.descriptor.specs.declared.inside.Inside.{Inside}
-use Rattle.descriptor.proofs.Outcomes.{Holds, holds-weaken}
+use Rattle.descriptor.proofs.Outcomes.{Holds}
 use Rattle.descriptor.proofs.Standing.{row-none}
 use Rattle.flattened.specs.Order.{Order}
 use Rattle.flattened.specs.Token.{Token}
 use Rattle.flattened.specs.Walk.{textAt, follow, repeat, walk, walkAll}
 use Rattle.flattened.specs.inner.Cursor.{cursor}
 use Rattle.flattened.specs.inner.Progress.{progress, plus, tokensOf}
-use Rattle.flattened.specs.inner.Types.{typeAt, typesAt, TypeStands, RowStands, DataAt, fieldsKind}
+use Rattle.flattened.specs.inner.Types.{typeAt, typesAt, TypeStands, RowStands, fieldsKind}
 use Rattle.flattened.specs.inner.Arrays.{elementsAt}
 use Rattle.flattened.specs.declared.cursor.Cursor.{Cursor}
 use Rattle.flattened.specs.declared.progress.Progress.{Progress}
@@ -29,7 +29,7 @@ use Rattle.flattened.specs.declared.progress.Progress.the-variants.{Walk
 use Rattle.flattened.proofs.Arms.{walk-text, walk-array, walk-cluster, walk-one}
 use Rattle.flattened.proofs.Cases.{it, hasInside, counted-inside, types-inside, row-inside}
 use Rattle.flattened.proofs.Forward.{Forward, walk-forward, all-forward, repeat-forward}
-use Rattle.flattened.proofs.Progresses.{plus-plus, plus-none, progress-reads, progress-holds, follow-walked, follow-refused}
+use Rattle.flattened.proofs.Progresses.{plus-plus, plus-none, progress-holds, follow-walked, follow-refused}
 use Rattle.flattened.proofs.Types.{Counted, RowTurn, row-turn, type-solid, types-solid, alone}
 
 -- where a walk reads, it ends in the data, and past as many bytes as it read tokens

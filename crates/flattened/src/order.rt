@@ -2,7 +2,7 @@
 // each step is a function of its own, so that it is simplified before it is put into a loop.
 use number::endian::read_le;
 ghost use mathlib.Core.Path.{_≡_};
-ghost use Prim.Native.Nat.{_+_, _≤_, _<_, _^_};
+ghost use Prim.Native.Nat.{_+_, _≤_};
 ghost use lib.ListN.{length};
 ghost use Rattle.number.specs.Endian.{le};
 ghost use Rattle.flattened.specs.Order.{numberAt};

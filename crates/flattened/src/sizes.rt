@@ -6,7 +6,7 @@ use super::limits::LENGTH_LIMIT;
 use super::order::Order;
 use super::order::number_4;
 ghost use mathlib.Core.Path.{_≡_};
-ghost use Prim.Native.Nat.{_*_, _^_, _≤_, _<_, min};
+ghost use Prim.Native.Nat.{_*_, _≤_, _<_, min};
 ghost use lib.ListN.{length};
 ghost use Rattle.descriptor.specs.Limits.{dimensionLimit, lengthLimit};
 ghost use Rattle.flattened.specs.Walk.{arrayAt};

@@ -1,5 +1,5 @@
 -- `all_keep` meets its contract: where there is a rule, the largest number is below its limit.
-use mathlib.Core.Path.{_≡_, sym, ap, ap₂, _∙_}
+use mathlib.Core.Path.{sym, ap, ap₂, _∙_}
 use Prim.Native.Nat.{ℕ}
 use denote.Ref.{now}
 use Rattle.flattened.specs.inner.Order.{orderOf}

@@ -1,6 +1,5 @@
 -- `array_front` meets its contract: the size words, the elements that are passed, and what is left of them.
-use mathlib.Core.Path.{_≡_, sym, ap, _∙_}
-use Prim.Native.Nat.{ℕ, _+_, _≤_}
+use mathlib.Core.Path.{sym, _∙_}
 use native.Mathlib.Omega.{arith}
 use denote.Ref.{now}
 use Rattle.flattened.specs.inner.Order.{orderOf}

@@ -1,7 +1,7 @@
 -- `fitting` meets its contract: a product where it is small, a quotient else.
-use mathlib.Core.Path.{_≡_, sym}
+use mathlib.Core.Path.{sym}
 use mathlib.Core.Logic.{⊎-elim}
-use Prim.Native.Nat.{ℕ, _*_, _/_, _^_, _≤_}
+use Prim.Native.Nat.{_*_, _/_, _^_, _≤_}
 use native.Mathlib.Nat.{mul-le-mul, div-le-self, min-eq-left, min-eq-right}
 use native.Mathlib.Omega.{arith}
 use Rattle.flattened.proofs.Passing.{fits-all, fits-fewer}

@@ -1,5 +1,5 @@
 -- `check_data` meets its contract: the check in big-endian order.
-use mathlib.Core.Path.{_≡_, _∙_}
+use mathlib.Core.Path.{_∙_}
 use denote.Ref.{now}
 use Rattle.flattened.specs.inner.Order.{orderOf}
 use Rattle.flattened.proofs.Checking.{check-big}

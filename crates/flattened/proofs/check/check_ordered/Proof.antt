@@ -1,6 +1,5 @@
 -- `check_ordered` meets its contract: the descriptor, the length of the data, the walk, and what it leaves over.
-use mathlib.Core.Path.{_≡_, sym, _∙_}
-use Prim.Native.Nat.{_≤_}
+use mathlib.Core.Path.{_∙_}
 use native.Mathlib.Omega.{arith}
 use borrow.Author.Tests.{not-true, not-false}
 use denote.Ref.{now}

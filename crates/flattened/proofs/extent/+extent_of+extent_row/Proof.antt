@@ -1,26 +1,23 @@
 -- The extent of a type and of a row of types. The measure is the depth left, twice, and one more for a row. The invariant: the extent so
 -- far, and that of the types that are left, are the extent of all. Rests on `Cases` and `ExtentTurns`.
 use borrow.Author.Needs.{needs}
-use mathlib.Core.Path.{_≡_, sym, ap, _∙_}
-use mathlib.Core.Bool.{false}
+use mathlib.Core.Path.{sym, ap, _∙_}
 use mathlib.Core.List.{[], _∷_}
-use Prim.Native.Nat.{_+_, _-_}
+use Prim.Native.Nat.{_+_, _-_, ℕ, _<_}
 use native.Mathlib.Omega.{arith}
 use denote.Ref.{now}
-use types.Run.{miss}
 use Rattle.descriptor.specs.Codes.{cluster, kindOf}
-use Rattle.descriptor.specs.Header.{codeIn}
 use Rattle.descriptor.specs.Width.{widthOf}
 use Rattle.descriptor.specs.inner.Steps.{kindIs}
 use Rattle.descriptor.specs.declared.codes.Kind.the-variants as kinds
 use Rattle.descriptor.proofs.CodeKinds.{kindNamed, known}
 use Rattle.descriptor.proofs.Bodies.{header-room}
 use Rattle.flattened.specs.inner.Extent.{judges}
-use Rattle.flattened.specs.declared.extent.Extent.the-variants.{Varies, Fixed}
+use Rattle.flattened.specs.declared.extent.Extent.the-variants.{Fixed}
+use Rattle.flattened.proofs.Named.{not-kind}
 use Rattle.flattened.proofs.Cases.{hasInside, row-inside, extent-number, extent-members, extent-other}
 use Rattle.flattened.proofs.Types.{type-deep}
 use Rattle.flattened.proofs.ExtentTurns.{ExtentLoop, extent-begin, extent-turn, extent-stop, extent-few, extent-next, extent-done}
-use Prim.Native.Nat.{ℕ, _<_}
 use borrow.Fn.Kinds.{In}
 use borrow.Fn.PlainCycle.{Measures, is, falls, and}
 use Rattle.flattened.proofs.extent.extent_of.Reads as extent-of
@@ -114,9 +111,7 @@ unfolding kindIs
 extent-of-returns-3 t c =
     let a = c .before .before .before .before .before .before .args in
     let wide = c .before .before .before .width .ensures ∙ ap widthOf (c .before .before .before .before .code-at .ensures) in
-    let other : (cluster ≡ kindOf (codeIn (now (a .d)) (a .p)) → ⊥) = λ e.
-    let is = c .before .kind-of .ensures ∙ ap (λ k. kindIs (kindOf k)) (c .before .before .before .before .code-at .ensures) ∙ ap kindIs (sym e) in
-    miss (0 ∷ 1 ∷ 2 ∷ 3 ∷ 4 ∷ 6 ∷ []) 5 tt (rw is at (c .match .keys2)) in
+    let other = not-kind cluster (0 ∷ 1 ∷ 2 ∷ 3 ∷ 4 ∷ 6 ∷ []) tt _ _ _ (c .before .kind-of .ensures) (c .before .before .before .before .code-at .ensures) (c .match .keys2) in
     extent-other (now (a .d)) (a .p) (c .before .before .before .before .before .before .pre .1 .here) (omega (arith, c .before .before .if1 .left)) other
 
 abbrev extent-row-Inv-loop : extent-row-lts.InvT-loop

@@ -1,5 +1,5 @@
 -- `judges` meets its contract, rule by rule.
-use mathlib.Core.Path.{_≡_, sym, ap}
+use mathlib.Core.Path.{sym, ap}
 use Rattle.flattened.specs.inner.Extent.{judges}
 use borrow.Author.Needs.{needs}
 use Rattle.flattened.proofs.extent.judges.Statement.{statement}

@@ -1,14 +1,13 @@
 -- `rule_of` meets its contract: an enumeration has items, a Boolean two values, any other code no rule.
-use mathlib.Core.Path.{_≡_, sym, ap, _∙_}
+use mathlib.Core.Path.{sym, ap, _∙_}
 use mathlib.Core.List.{[], _∷_}
 use denote.Ref.{now}
-use types.Run.{miss}
 use Rattle.descriptor.specs.Codes.{enumeration, kindOf}
-use Rattle.descriptor.specs.Header.{codeIn}
 use Rattle.descriptor.specs.inner.Steps.{kindIs}
 use Rattle.descriptor.specs.declared.codes.Kind.the-variants as kinds
 use Rattle.descriptor.proofs.CodeKinds.{kindNamed, known}
 use Rattle.descriptor.proofs.Bodies.{header-room}
+use Rattle.flattened.proofs.Named.{not-kind}
 use Rattle.flattened.proofs.Cases.{rule-items, rule-flag, rule-any}
 use borrow.Author.Needs.{needs}
 use Rattle.flattened.proofs.extent.rule_of.Statement.{statement}
@@ -37,18 +36,14 @@ returns-2 : tie.Need-returns-2
 unfolding kindIs
 returns-2 c =
     let a = c .before .before .before .before .before .args in
-    let other : (enumeration ≡ kindOf (codeIn (now (a .d)) (a .p)) → ⊥) = λ e.
-    let is = c .before .before .kind-of .ensures ∙ ap (λ k. kindIs (kindOf k)) (c .before .before .before .code-at .ensures) ∙ ap kindIs (sym e) in
-    miss (0 ∷ 2 ∷ 3 ∷ 4 ∷ 5 ∷ 6 ∷ []) 1 tt (rw is at (c .before .match .keys2)) in
+    let other = not-kind enumeration (0 ∷ 2 ∷ 3 ∷ 4 ∷ 5 ∷ 6 ∷ []) tt _ _ _ (c .before .before .kind-of .ensures) (c .before .before .before .code-at .ensures) (c .before .match .keys2) in
     rule-flag (now (a .d)) (a .p) (c .before .before .before .before .before .pre) other (sym (c .before .before .before .code-at .ensures) ∙ c .if1 .taken)
 
 returns-3 : tie.Need-returns-3
 unfolding kindIs
 returns-3 c =
     let a = c .before .before .before .before .before .args in
-    let other : (enumeration ≡ kindOf (codeIn (now (a .d)) (a .p)) → ⊥) = λ e.
-    let is = c .before .before .kind-of .ensures ∙ ap (λ k. kindIs (kindOf k)) (c .before .before .before .code-at .ensures) ∙ ap kindIs (sym e) in
-    miss (0 ∷ 2 ∷ 3 ∷ 4 ∷ 5 ∷ 6 ∷ []) 1 tt (rw is at (c .before .match .keys2)) in
+    let other = not-kind enumeration (0 ∷ 2 ∷ 3 ∷ 4 ∷ 5 ∷ 6 ∷ []) tt _ _ _ (c .before .before .kind-of .ensures) (c .before .before .before .code-at .ensures) (c .before .match .keys2) in
     rule-any (now (a .d)) (a .p) (c .before .before .before .before .before .pre) other (λ e. c .if1 .left (c .before .before .before .code-at .ensures ∙ e))
 
 pub rule-of-spec : {M : Type 1} → statement M

@@ -1,8 +1,7 @@
 -- `largest` meets its contract: one loop for each of the three widths.
 use mathlib.Core.Path.{_≡_, sym, ap, _∙_}
-use Prim.Native.Nat.{ℕ, _+_, _*_, _≤_}
+use Prim.Native.Nat.{ℕ, _+_, _*_}
 use native.Mathlib.Omega.{arith}
-use lib.ListN.{length}
 use denote.Ref.{now}
 use Rattle.flattened.specs.Order.{big}
 use Rattle.flattened.specs.inner.Order.{orderOf}

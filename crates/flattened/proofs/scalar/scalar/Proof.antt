@@ -1,5 +1,5 @@
 -- `scalar` meets its contract: the bytes are there, and the number keeps the rule.
-use mathlib.Core.Path.{_≡_, sym, ap, _∙_}
+use mathlib.Core.Path.{sym, _∙_}
 use native.Mathlib.Omega.{arith}
 use denote.Ref.{now}
 use Rattle.flattened.specs.inner.Order.{orderOf}

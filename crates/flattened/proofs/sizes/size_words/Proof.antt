@@ -1,6 +1,6 @@
 -- `size_words` meets its contract. The invariant: the sizes that are left, and the capped product so far, stand for all.
 use borrow.Author.Needs.{needs}
-use mathlib.Core.Path.{_≡_, sym, ap, _∙_}
+use mathlib.Core.Path.{sym, ap, _∙_}
 use Prim.Native.Nat.{ℕ, _*_, _-_, min}
 use native.Mathlib.Omega.{arith}
 use denote.Ref.{now}

@@ -2,15 +2,13 @@
 -- function's rank in these. Rests on `Walks` and `Turns`.
 use borrow.Author.Needs.{needs}
 use mathlib.Core.Path.{_≡_, sym, ap, subst, _∙_}
-use mathlib.Core.List.{List, [], _∷_}
+use mathlib.Core.List.{[], _∷_}
 use mathlib.Core.Logic.{⊎-elim}
-use Prim.Native.Nat.{_+_, _-_, _*_, _≤_}
+use Prim.Native.Nat.{_+_, _-_, _*_, _≤_, ℕ, _<_}
 use native.Mathlib.Omega.{arith}
 use lib.ListN.{length}
 use denote.Ref.{now}
-use types.Run.{miss}
-use Rattle.descriptor.specs.Codes.{string, array, cluster, kindOf}
-use Rattle.descriptor.specs.Header.{codeIn}
+use Rattle.descriptor.specs.Codes.{string, array, kindOf}
 use Rattle.descriptor.specs.Width.{widthOf}
 use Rattle.descriptor.specs.inner.Steps.{kindIs}
 use Rattle.descriptor.specs.declared.codes.Kind.the-variants as kinds
@@ -23,12 +21,12 @@ use Rattle.flattened.specs.inner.Types.{typeAt, typesAt}
 use Rattle.flattened.specs.inner.Arrays.{resumed, Resumable}
 use Rattle.flattened.specs.declared.arrays.Front.{Front}
 use Rattle.flattened.specs.declared.progress.Progress.{Progress}
+use Rattle.flattened.proofs.Named.{not-kind}
 use Rattle.flattened.proofs.Cases.{hasInside, row-inside, is-cluster}
 use Rattle.flattened.proofs.Types.{type-deep, alone}
 use Rattle.flattened.proofs.Repeats.{repeat-one}
 use Rattle.flattened.proofs.Turns.{RepeatLoop, repeat-begin, repeat-next, repeat-stop, repeat-end}
 use Rattle.flattened.proofs.Walks.{Ahead, value-text, value-cluster, value-array, RowLoop, row-begin, row-here, row-stop, row-ahead, row-next, row-end, types-ahead, walk-texts, walk-clusters, walk-alone, values-few}
-use Prim.Native.Nat.{ℕ, _<_}
 use borrow.Fn.Kinds.{In}
 use borrow.Fn.PlainCycle.{Measures, is, falls, and}
 use Rattle.flattened.proofs.walk.array.Reads as array
@@ -457,12 +455,8 @@ value-row-requires t c κs =
     let a = c .before .before .before .before .before .before .before .args in
     let d = now (a .d) in
     let s = now (a .s) in
-    let no-text : (string ≡ kindOf (codeIn d (a .p)) → ⊥) = λ e.
-    let is = c .before .before .before .kind-of .ensures ∙ ap (λ x. kindIs (kindOf x)) (c .before .before .before .before .code-at .ensures) ∙ ap kindIs (sym e) in
-    miss (0 ∷ 1 ∷ 2 ∷ 4 ∷ 5 ∷ 6 ∷ []) 3 tt (rw is at (c .before .before .match .keys2)) in
-    let no-array : (array ≡ kindOf (codeIn d (a .p)) → ⊥) = λ e.
-    let is = c .before .before .before .kind-of .ensures ∙ ap (λ x. kindIs (kindOf x)) (c .before .before .before .before .code-at .ensures) ∙ ap kindIs (sym e) in
-    miss (0 ∷ 1 ∷ 2 ∷ 3 ∷ 5 ∷ 6 ∷ []) 4 tt (rw is at (c .match2 .keys2)) in
+    let no-text = not-kind string (0 ∷ 1 ∷ 2 ∷ 4 ∷ 5 ∷ 6 ∷ []) tt _ _ _ (c .before .before .before .kind-of .ensures) (c .before .before .before .before .code-at .ensures) (c .before .before .match .keys2) in
+    let no-array = not-kind array (0 ∷ 1 ∷ 2 ∷ 3 ∷ 5 ∷ 6 ∷ []) tt _ _ _ (c .before .before .before .kind-of .ensures) (c .before .before .before .before .code-at .ensures) (c .match2 .keys2) in
     let kind = is-cluster d (a .p) (c .before .before .before .before .before .before .before .pre .1 .0 .here) (c .before .before .before .before .before .before .before .pre .1 .1 .0) no-text no-array in
     (omega (arith, c .before .before .before .before .before .before .before .pre .0, type-deep d (a .p) (a .left) (c .before .before .before .before .before .before .before .pre .1 .0)), (row-inside d (a .p) (a .left) (c .before .before .before .before .before .before .before .pre .1 .0) _ (c .before .inside-of .ensures) (sym (ap hasInside kind)), c .before .before .before .before .before .before .before .pre .1 .1 .1))
 
@@ -472,12 +466,8 @@ value-returns-3 t c =
     let a = c .before .before .before .before .before .before .before .before .args in
     let d = now (a .d) in
     let s = now (a .s) in
-    let no-text : (string ≡ kindOf (codeIn d (a .p)) → ⊥) = λ e.
-    let is = c .before .before .before .before .kind-of .ensures ∙ ap (λ x. kindIs (kindOf x)) (c .before .before .before .before .before .code-at .ensures) ∙ ap kindIs (sym e) in
-    miss (0 ∷ 1 ∷ 2 ∷ 4 ∷ 5 ∷ 6 ∷ []) 3 tt (rw is at (c .before .before .before .match .keys2)) in
-    let no-array : (array ≡ kindOf (codeIn d (a .p)) → ⊥) = λ e.
-    let is = c .before .before .before .before .kind-of .ensures ∙ ap (λ x. kindIs (kindOf x)) (c .before .before .before .before .before .code-at .ensures) ∙ ap kindIs (sym e) in
-    miss (0 ∷ 1 ∷ 2 ∷ 3 ∷ 5 ∷ 6 ∷ []) 4 tt (rw is at (c .before .match2 .keys2)) in
+    let no-text = not-kind string (0 ∷ 1 ∷ 2 ∷ 4 ∷ 5 ∷ 6 ∷ []) tt _ _ _ (c .before .before .before .before .kind-of .ensures) (c .before .before .before .before .before .code-at .ensures) (c .before .before .before .match .keys2) in
+    let no-array = not-kind array (0 ∷ 1 ∷ 2 ∷ 3 ∷ 5 ∷ 6 ∷ []) tt _ _ _ (c .before .before .before .before .kind-of .ensures) (c .before .before .before .before .before .code-at .ensures) (c .before .match2 .keys2) in
     let kind = is-cluster d (a .p) (c .before .before .before .before .before .before .before .before .pre .1 .0 .here) (c .before .before .before .before .before .before .before .before .pre .1 .1 .0) no-text no-array in
     c .row .ensures ∙ sym (ap progress (value-cluster d (a .p) (c .before .before .before .before .before .before .before .before .pre .1 .0 .here) (orderOf (a .o)) s (a .from .at) _ (c .before .before .inside-of .ensures) kind))
 

@@ -1,6 +1,6 @@
 -- `after` meets its contract, case by case.
-use mathlib.Core.Path.{_≡_, sym, ap, subst}
-use Prim.Native.Nat.{ℕ, _+_, _<_, _^_}
+use mathlib.Core.Path.{sym, ap, subst}
+use Prim.Native.Nat.{_+_, _<_, _^_}
 use native.Mathlib.Omega.{arith}
 use Rattle.flattened.specs.inner.Progress.{plus, tokensOf}
 use Rattle.flattened.specs.declared.progress.Progress.{Progress}

@@ -1,5 +1,5 @@
 -- `Cursor::word` meets its contract: the skip of four bytes says whether they are there.
-use mathlib.Core.Path.{_≡_, sym, ap₂, _∙_}
+use mathlib.Core.Path.{sym, ap₂, _∙_}
 use Prim.Native.Nat.{ℕ}
 use denote.Ref.{now}
 use Rattle.flattened.specs.inner.Order.{orderOf}
