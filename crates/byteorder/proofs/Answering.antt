@@ -1,7 +1,6 @@
 -- From the check and the pass to the answer and the output: a refusal, an output that is too small, or the data turned. Rests on what
 -- accepted data is, and on the chain of its tokens.
-use mathlib.Core.Path.{_≡_, refl, sym, ap, subst, _∙_}
-use mathlib.Core.Bool.{Bool, true}
+use mathlib.Core.Path.{_≡_, refl, sym, ap, _∙_}
 use mathlib.Core.List.{List, _++_}
 use Prim.Native.Nat.{ℕ, _+_, _<_, _≤_}
 use native.Mathlib.Omega.{arith}
@@ -10,7 +9,7 @@ use lib.Dec.{leb, eqb}
 use lib.ListN.{length, drop}
 use Rattle.descriptor.specs.Limits.{depthLimit, dataLimit}
 use Rattle.descriptor.specs.Tree.{Tree}
-use Rattle.descriptor.specs.Outcome.{Outcome, refused, read, andThen, require, judge}
+use Rattle.descriptor.specs.Outcome.{Outcome, refused, read, judge}
 use Rattle.descriptor.specs.Check.{checked}
 use Rattle.descriptor.specs.Answers.{refusal, accepted}
 use Rattle.descriptor.specs.Output.{Written, unwritten, writtenTo}
@@ -21,15 +20,16 @@ use Rattle.descriptor.proofs.Places as descriptors
 use Rattle.descriptor.proofs.Standing.{accepted-standing}
 use Rattle.flattened.specs.Order.{Order}
 use Rattle.flattened.specs.Token.{Token, Chain}
-use Rattle.flattened.specs.Walk.{walk, walked}
+use Rattle.flattened.specs.Walk.{repeat, walk, walked}
 use Rattle.flattened.specs.inner.Checks.{orderedCheck}
 use Rattle.flattened.specs.inner.Types.{typeOf, typeAt, TypeStands}
 use Rattle.flattened.proofs.Checking.{top-stands}
 use Rattle.flattened.proofs.Refusals as data-refusals
+use Rattle.flattened.proofs.Repeats.{repeat-one}
 use Rattle.flattened.proofs.Types.{type-solid}
 use Rattle.byteorder.specs.Reversal.{reversed, turned}
 use Rattle.byteorder.specs.inner.Turning.{turnedTokens, tokensOf, Turnable, Turned}
-use Rattle.byteorder.proofs.Chained.{Chained, walk-chain}
+use Rattle.byteorder.proofs.Chained.{walk-chain}
 use Rattle.byteorder.proofs.Whole.{whole-length, whole-turned}
 
 -- data that is walked to its end
@@ -112,9 +112,13 @@ module _ (o : Order) (d s out : List ℕ) where
     long : length (reversed s (a .tokens)) ≡ length s
     long = whole-length s (a .tokens) chain
 
-    pub accepted-turnable : length s ≤ length out → Turnable (walk o (typeAt d 0) s 0) s out 0
+    -- as one value in a row
+    one : repeat (λ a. walk o (typeAt d 0) s a) 1 0 ≡ walk o (typeAt d 0) s 0
+    one = repeat-one (λ a. walk o (typeAt d 0) s a) 0
+
+    pub accepted-turnable : length s ≤ length out → Turnable (repeat (λ a. walk o (typeAt d 0) s a) 1 0) s out 0
     unfolding isRead
-    accepted-turnable room = record { reads = ap isRead reads; here = record { inside = omega arith; room = room }; short = accepted-short }
+    accepted-turnable room = record { reads = ap isRead (one ∙ reads); here = record { inside = omega arith; room = room }; short = accepted-short }
 
     -- the output is too small
     pub turn-small : length out < length s → unwritten out 50 4 (length s) ≡ turned o d s out
@@ -124,11 +128,11 @@ module _ (o : Order) (d s out : List ℕ) where
         ap (unwritten out 50 4) (sym long) ∙ rw (a .checks, a .walks, over) refl
 
     -- the data is turned
-    pub turn-written : length s ≤ length out → (after : List ℕ) (next : ℕ) → Turned (walk o (typeAt d 0) s 0) s out after next
+    pub turn-written : length s ≤ length out → (after : List ℕ) (next : ℕ) → Turned (repeat (λ a. walk o (typeAt d 0) s a) 1 0) s out after next
         → record { answer = accepted (length s); out = after } ≡ turned o d s out
     unfolding turned writtenTo tokensOf
     turn-written room after next t =
         let fits : _ = le-leb (length (reversed s (a .tokens))) (length out) (omega (arith, long)) in
         let bytes : after ≡ reversed s (a .tokens) ++ drop (length (reversed s (a .tokens))) out =
-        t .bytes ∙ ap (λ (u : Outcome (List Token)). turnedTokens s (tokensOf u) out) reads ∙ whole-turned s (a .tokens) chain out room in
+        t .bytes ∙ ap (λ (u : Outcome (List Token)). turnedTokens s (tokensOf u) out) (one ∙ reads) ∙ whole-turned s (a .tokens) chain out room in
         (λ i. record { answer = accepted (sym long i); out = bytes i }) ∙ rw (a .checks, a .walks, fits) refl

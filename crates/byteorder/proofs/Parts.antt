@@ -2,8 +2,8 @@
 -- over the types of a row keeps. Rests on the laws of what is left to turn, and on the walk of such types.
 use mathlib.Core.Path.{_≡_, refl, sym, ap, subst, _∙_}
 use mathlib.Core.Bool.{true}
-use mathlib.Core.List.{List, [], _∷_}
-use Prim.Native.Nat.{ℕ, zero, suc, _+_, _-_, _*_, _<_, _≤_, min}
+use mathlib.Core.List.{List, _∷_}
+use Prim.Native.Nat.{ℕ, suc, _+_, _-_, _*_, _<_, _≤_, min}
 use native.Mathlib.Nat.{sub-zero}
 use native.Mathlib.Omega.{arith}
 use lib.ListN.{length}
@@ -22,7 +22,7 @@ use Rattle.flattened.specs.Walk.{token, single, arrayAt, follow, repeat, walk, 
 use Rattle.flattened.specs.inner.Arrays.{elementsAt}
 use Rattle.flattened.specs.inner.Cursor.{cursor}
 use Rattle.flattened.specs.inner.Sizes.{elementCap, cappedSizes}
-use Rattle.flattened.specs.inner.Types.{typeAt, typesAt, TypeStands, RowStands, Solid}
+use Rattle.flattened.specs.inner.Types.{typeAt, typesAt, RowStands, Solid}
 use Rattle.flattened.specs.declared.cursor.Cursor.{Cursor}
 use Rattle.flattened.specs.declared.sizes.Sizes.the-variants.{Count, Refused}
 use Rattle.flattened.proofs.Capped.{repeat-capped}
@@ -30,7 +30,7 @@ use Rattle.flattened.proofs.Cases.{walk-number}
 use Rattle.flattened.proofs.Forward.{walk-forward, sizes-end}
 use Rattle.flattened.proofs.Repeats.{repeat-one}
 use Rattle.flattened.proofs.Types.{RowTurn, row-turn}
-use Rattle.byteorder.specs.inner.Turning.{turnedRun, turnedTokens, tokensOf, numberWidth, numberCount, Room, Turnable, Turned, SizesTurned}
+use Rattle.byteorder.specs.inner.Turning.{turnedRun, tokensOf, numberWidth, numberCount, Room, Turnable, Turned, SizesTurned}
 use Rattle.byteorder.proofs.Tokens.{sizes-token}
 use Rattle.byteorder.proofs.Remaining.{Remains, remains-all, first-turnable, remains-next, remains-none}
 use Rattle.byteorder.proofs.Pieces.{ScalarRead, scalar-read, scalars-turned}
@@ -41,6 +41,11 @@ turnable-as o u s out at e t = subst (λ (x : Outcome (List Token)). Turnable x 
 
 pub turned-as : (o u : Outcome (List Token)) (s before after : List ℕ) (next : ℕ) → o ≡ u → Turned o s before after next → Turned u s before after next
 turned-as o u s before after next e t = subst (λ (x : Outcome (List Token)). Turned x s before after next) e t
+
+-- and of the same output and place
+pub turned-at : (o : Outcome (List Token)) (s before after then : List ℕ) (next place : ℕ) → then ≡ after → place ≡ next → Turned o s before after next
+    → Turned o s before then place
+turned-at o s before after then next place e h t = record { place = h ∙ t .place; inside = omega (arith, t .inside); bytes = e ∙ t .bytes }
 
 -- scalars of the type at p, by the code and the width that were read
 module _ (d : List ℕ) (p : ℕ) (here : Stands d p) (code w : ℕ) (coded : code ≡ codeIn d p) (wide : w ≡ widthOf code) (some : 0 < w) (o : Order) (s : List ℕ) where

@@ -1,16 +1,16 @@
 -- Scalars, strings and size words that the walk reads: where they end, and the output when their numbers are turned. Rests on the
 -- definitions of the walk and on the laws of tokens.
-use mathlib.Core.Path.{_≡_, refl, sym, ap, ap₂, subst, _∙_}
+use mathlib.Core.Path.{_≡_, refl, sym, ap, _∙_}
 use mathlib.Core.Bool.{Bool, true, false}
 use mathlib.Core.List.{List, [], _∷_}
-use Prim.Native.Nat.{ℕ, zero, suc, _+_, _*_, _<_, _≤_}
+use Prim.Native.Nat.{ℕ, zero, suc, _+_, _*_, _≤_}
 use native.Mathlib.Nat.{suc-mul}
 use native.Mathlib.Omega.{arith}
-use borrow.Author.Tests.{leb-true, ltb-true}
+use borrow.Author.Tests.{leb-true}
 use lib.Dec.{leb, ltb}
 use lib.ListN.{length}
 use Rattle.descriptor.specs.Limits.{lengthLimit}
-use Rattle.descriptor.specs.Outcome.{Outcome, read, require}
+use Rattle.descriptor.specs.Outcome.{Outcome, require}
 use Rattle.descriptor.specs.Width.{widthOf}
 use Rattle.descriptor.specs.inner.Standing.{isRead, nextOf}
 use Rattle.descriptor.proofs.Steps.{impossible}

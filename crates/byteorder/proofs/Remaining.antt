@@ -3,7 +3,7 @@
 use mathlib.Core.Path.{_≡_, refl, sym, ap, subst, _∙_}
 use mathlib.Core.Bool.{true}
 use mathlib.Core.List.{List, [], _++_}
-use Prim.Native.Nat.{ℕ, zero, suc, _+_, _-_, _<_, _≤_}
+use Prim.Native.Nat.{ℕ, suc, _+_, _-_, _<_, _≤_}
 use native.Mathlib.Nat.{sub-zero}
 use native.Mathlib.Omega.{arith}
 use lib.ListN.{length}
@@ -27,7 +27,7 @@ pub remains-all : (o : Outcome (List Token)) (s out : List ℕ) (at : ℕ) → T
 remains-all o s out at t = record { ready = t; next = refl; same = refl; long = refl }
 
 -- where a part and the next are read, so is the part
-pub first-reads : (o : Outcome (List Token)) (g : ℕ → Outcome (List Token)) → isRead (follow o g) ≡ true → isRead o ≡ true
+first-reads : (o : Outcome (List Token)) (g : ℕ → Outcome (List Token)) → isRead (follow o g) ≡ true → isRead o ≡ true
 unfolding isRead
 first-reads (refused number place) g e = e
 first-reads (read q ts) g e = refl

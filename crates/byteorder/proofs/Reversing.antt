@@ -1,11 +1,11 @@
 -- A number read most significant byte first and written least significant byte first is its bytes in reverse, whole or by halves, at any
 -- width. Rests on the laws of numbers.
 use mathlib.Core.Path.{_≡_, refl, sym, ap, ap₂, _∙_}
-use mathlib.Core.List.{List, [], _∷_, _++_, reverse, reverse-append}
+use mathlib.Core.List.{List, _∷_, _++_, reverse, reverse-append}
 use Prim.Native.Nat.{ℕ, zero, suc, _+_, _*_, _/_, _%_, _^_, _<_, _≤_}
-use native.Mathlib.Nat.{zero-add, suc-add, pow-zero, pow-succ', div-one, div-div-eq-div-mul}
+use native.Mathlib.Nat.{zero-add, suc-add, pow-zero, pow-suc, pow-succ', mul-assoc, div-one, div-add-mod', div-div-eq-div-mul}
 use native.Mathlib.Omega.{arith}
-use lib.ListN.{length, getD, set, take, drop, length-take, length-drop, length-reverse}
+use lib.ListN.{length, getD, set, take, drop}
 use lib.Seq.{sets, take-add, drop-drop, drop-cons}
 use Rattle.number.specs.Endian.{be, leBytes}
 use Rattle.number.proofs.Inverse.{leBytes-be}
@@ -24,10 +24,25 @@ leBytes-split (suc m) n v =
     ∙ ap (λ (x : List ℕ). v % 256 ∷ x) (leBytes-split m n (v / 256))
     ∙ ap (λ (k : ℕ). v % 256 ∷ (leBytes m (v / 256) ++ leBytes n k)) high
 
+-- what stands above the n bytes does not count
+leBytes-above : (n q v : ℕ) → leBytes n (q * 256 ^ n + v) ≡ leBytes n v
+unfolding leBytes
+leBytes-above zero q v = refl
+leBytes-above (suc n) q v =
+    let up : q * 256 ^ suc n ≡ q * 256 ^ n * 256 = ap (λ (k : ℕ). q * k) (pow-suc 256 n) ∙ sym (mul-assoc q (256 ^ n) 256) in
+    let low : (q * 256 ^ suc n + v) % 256 ≡ v % 256 = omega arith in
+    let high : (q * 256 ^ suc n + v) / 256 ≡ q * 256 ^ n + v / 256 = omega arith in
+    ap₂ (λ (x y : ℕ). x ∷ leBytes n y) low high ∙ ap (λ (x : List ℕ). v % 256 ∷ x) (leBytes-above n q (v / 256))
+
+leBytes-mod : (n v : ℕ) → leBytes n (v % 256 ^ n) ≡ leBytes n v
+leBytes-mod n v = sym (leBytes-above n (v / 256 ^ n) (v % 256 ^ n)) ∙ ap (leBytes n) (div-add-mod' v (256 ^ n))
+
 -- a number of m + n bytes written in two parts
-pub parts-written : (m n v at : ℕ) (out : List ℕ) → sets (sets out at (leBytes m v)) (at + m) (leBytes n (v / 256 ^ m)) ≡ sets out at (leBytes (m + n) v)
+pub parts-written : (m n v at : ℕ) (out : List ℕ)
+    → sets (sets out at (leBytes m (v % 256 ^ m))) (at + m) (leBytes n (v / 256 ^ m)) ≡ sets out at (leBytes (m + n) v)
 parts-written m n v at out =
-    ap (λ (k : ℕ). sets (sets out at (leBytes m v)) (at + k) (leBytes n (v / 256 ^ m))) (sym (length-leBytes m v))
+    ap (λ (x : List ℕ). sets (sets out at x) (at + m) (leBytes n (v / 256 ^ m))) (leBytes-mod m v)
+    ∙ ap (λ (k : ℕ). sets (sets out at (leBytes m v)) (at + k) (leBytes n (v / 256 ^ m))) (sym (length-leBytes m v))
     ∙ sym (ap (sets out at) (leBytes-split m n v) ∙ sets-append out at (leBytes m v) (leBytes n (v / 256 ^ m)))
 
 -- a byte stays as it is

@@ -1,11 +1,10 @@
 -- What the loop over numbers of one width keeps: with those that are left, the output becomes what is promised. Over the width.
 use mathlib.Core.Path.{_≡_, refl, sym, ap, ap₂, _∙_}
-use mathlib.Core.List.{List}
-use Prim.Native.Nat.{ℕ, zero, suc, _+_, _-_, _*_, _<_, _≤_}
+use mathlib.Core.List.{List, reverse}
+use Prim.Native.Nat.{ℕ, suc, _+_, _-_, _*_, _<_, _≤_}
 use native.Mathlib.Nat.{sub-zero, suc-mul}
 use native.Mathlib.Omega.{arith}
 use lib.ListN.{length, take, drop}
-use mathlib.Core.List.{reverse}
 use lib.Seq.{length-sets}
 use Rattle.byteorder.specs.inner.Turning.{turnedAt, turnedRun}
 

@@ -3,8 +3,8 @@
 use mathlib.Core.Path.{_≡_, refl, sym, ap, ap₂, _∙_}
 use mathlib.Core.Bool.{Bool, true, false, cond}
 use mathlib.Core.List.{List, [], _∷_, _++_, reverse}
-use Prim.Native.Nat.{ℕ, zero, suc, _+_, _*_, _/_, _<_, _≤_}
-use native.Mathlib.Nat.{zero-add, suc-add, add-zero, suc-mul}
+use Prim.Native.Nat.{ℕ, zero, suc, _+_, _*_, _/_, _≤_}
+use native.Mathlib.Nat.{zero-add, suc-add, suc-mul}
 use native.Mathlib.Numerals.{add-one}
 use native.Mathlib.Omega.{arith}
 use lib.ListN.{length, getD, take, drop, length-take, length-drop, length-reverse}
@@ -19,7 +19,7 @@ use Rattle.byteorder.specs.inner.Turning.{turnedAt, turnedRun, turnedTok
 use Rattle.byteorder.proofs.Widths.{numbers-all}
 
 -- m elements from `at` on
-pub slice-part : (at m : ℕ) (s : List ℕ) → slice at (at + m) s ≡ take m (drop at s)
+slice-part : (at m : ℕ) (s : List ℕ) → slice at (at + m) s ≡ take m (drop at s)
 slice-part zero m s = ap (λ (k : ℕ). take k s) (zero-add m)
 slice-part (suc at) m [] =
     ap (drop (suc at)) (take-nil (suc at + m)) ∙ drop-nil (suc at) ∙ sym (ap (take m) (drop-nil {A = ℕ} (suc at)) ∙ take-nil m)
@@ -39,7 +39,7 @@ module _ (s : List ℕ) where
       ∙ ap (λ (p : ℕ). turnedRun w s n p (turnedRun w s m (at + w) (turnedAt w s at out))) next
 
   -- bytes in a row are copied
-  pub run-copied : (n at : ℕ) (out : List ℕ) → at + n ≤ length s → turnedRun 1 s n at out ≡ sets out at (take n (drop at s))
+  run-copied : (n at : ℕ) (out : List ℕ) → at + n ≤ length s → turnedRun 1 s n at out ≡ sets out at (take n (drop at s))
   unfolding turnedRun
   run-copied zero at out h = refl
   run-copied (suc n) at out h =
@@ -49,7 +49,7 @@ module _ (s : List ℕ) where
       ∙ sym (ap (λ (x : List ℕ). sets out at (take (suc n) x)) first)
 
   -- k numbers of w bytes reversed, then m bytes as they are
-  pub each-run : (w k m at : ℕ) (out : List ℕ) → at + (k * w + m) ≤ length s
+  each-run : (w k m at : ℕ) (out : List ℕ) → at + (k * w + m) ≤ length s
       → sets out at (reverseEach w k (take (k * w + m) (drop at s))) ≡ sets (turnedRun w s k at out) (at + k * w) (take m (drop (at + k * w) s))
   unfolding reverseEach turnedRun
   each-run w zero m at out h =

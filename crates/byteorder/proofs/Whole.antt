@@ -2,7 +2,7 @@
 -- bytes. Rests on the definition of the reversed data.
 use mathlib.Core.Path.{_≡_, refl, sym, ap, ap₂, _∙_}
 use mathlib.Core.Bool.{Bool, true, false, cond}
-use mathlib.Core.List.{List, [], _∷_, _++_, reverse}
+use mathlib.Core.List.{List, _++_, reverse}
 use Prim.Native.Nat.{ℕ, zero, suc, _+_, _-_, _/_, _<_, _≤_}
 use native.Mathlib.Omega.{arith}
 use lib.ListN.{length, take, drop, length-append, length-reverse, length-take, length-drop}
@@ -40,14 +40,14 @@ module _ (s : List ℕ) where
   part-length a t e h l = omega (arith, token-length (t .kind) (tokenBytes s t), length-slice (t .start) (t .stop) s l)
 
   -- of a chain
-  pub chain-length : {a b : ℕ} {ts : List Token} → Chain a ts b → b ≤ length s → a + length (reversed s ts) ≡ b
+  chain-length : {a b : ℕ} {ts : List Token} → Chain a ts b → b ≤ length s → a + length (reversed s ts) ≡ b
   unfolding reversed
   chain-length done inside = omega arith
   chain-length (link {a = a} {t = t} {ts = ts} e h c) inside =
       let bytes : List ℕ = reverseToken (t .kind) (tokenBytes s t) in
       omega (arith, length-append bytes (reversed s ts), part-length a t e h (omega (arith, chain-order c)), chain-length c inside)
 
-  pub chain-turned : {a b : ℕ} {ts : List Token} → Chain a ts b → b ≤ length s → (out : List ℕ) → turnedTokens s ts out ≡ sets out a (reversed s ts)
+  chain-turned : {a b : ℕ} {ts : List Token} → Chain a ts b → b ≤ length s → (out : List ℕ) → turnedTokens s ts out ≡ sets out a (reversed s ts)
   unfolding reversed turnedTokens
   chain-turned done inside out = refl
   chain-turned (link {a = a} {t = t} {ts = ts} e h c) inside out =

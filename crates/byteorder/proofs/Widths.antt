@@ -1,8 +1,8 @@
 -- A scalar is one number of 1, 2, 4, 8 or 16 bytes, or two: a test that is computed over the table of widths, and the rules that it gives
 -- at every code. Rests on the table of widths, past which there is none.
 use mathlib.Core.Path.{_≡_, refl, sym, ap, subst, _∙_}
-use mathlib.Core.Bool.{Bool, true, false, cond, not, _&&_, _||_}
-use Prim.Native.Nat.{ℕ, _*_, _/_, _%_, _≤_, _<_}
+use mathlib.Core.Bool.{Bool, true, false, cond, _&&_, _||_}
+use Prim.Native.Nat.{ℕ, _*_, _/_, _≤_, _<_}
 use native.Mathlib.Nat.{mul-assoc, mul-le-mul-left}
 use native.Mathlib.Decide.{decLt}
 use native.Mathlib.Omega.{arith}
@@ -49,7 +49,7 @@ numbers-all c = go (decLt c 34)
     go (no h) = past (isComplex c) (none-past c (omega arith))
 
 -- each is of one of the widths that are turned
-pub number-wide : (c : ℕ) → 0 < widthOf c → NumberWide (numberWidth c)
+number-wide : (c : ℕ) → 0 < widthOf c → NumberWide (numberWidth c)
 number-wide c some = go (decLt c 34)
   where
     go : Dec (c < 34) → NumberWide (numberWidth c)

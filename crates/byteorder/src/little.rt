@@ -1,5 +1,5 @@
 // The little-endian form of data, and the way back.
-use super::turn::turn_value;
+use super::turn::turn_values;
 use descriptor::answer::Answer;
 use descriptor::answer::answered;
 use descriptor::limits::DEPTH_LIMIT;
@@ -23,7 +23,7 @@ fn turn_data(d: &[u8], s: &[u8], out: &mut [u8], o: Order) -> Answer
     if out.len() < n {
         return answered(50, 4, n);
     }
-    turn_value(d, 0, s, out, 0, o, DEPTH_LIMIT);
+    turn_values(d, 0, 1, s, out, 0, o, DEPTH_LIMIT);
     answered(0, 0, n)
 }
 

@@ -12,6 +12,9 @@ ghost use lib.Seq.{sets};
 ghost use Rattle.number.specs.Endian.{be, leBytes};
 ghost use Rattle.byteorder.specs.inner.Turning.{turnedAt, Room};
 
+// How many numbers four bytes can say.
+const WORD_RANGE: u64 = 4294967296;
+
 // The number of two bytes at `at`.
 pub fn turn_number_2(s: &[u8], out: &mut [u8], at: usize)
     requires { ⌜ Room (now s) (now out) (at + 2) ⌝ }
@@ -28,20 +31,34 @@ pub fn turn_number_4(s: &[u8], out: &mut [u8], at: usize)
     write_le(out, at, 4, number_4(s, at, Order::Big) as u64);
 }
 
-// Eight bytes are read as two halves: each is one load and one swap of bytes.
+fn read_word(s: &[u8], at: usize) -> u32
+    requires { ⌜ at + 4 ≤ length (now s) ⌝ }
+    ensures { λ r. ⌜ r ≡ be (now (s .entry)) at 4 ⌝ }
+{
+    read_be(s, at, 4) as u32
+}
+
+fn write_word(out: &mut [u8], at: usize, v: u32)
+    requires { ⌜ at + 4 ≤ length (now out) ⌝ }
+    ensures { λ _. ⌜ now (out .exit) ≡ sets (now (out .entry)) at (leBytes 4 v) ⌝ }
+{
+    write_le(out, at, 4, v as u64);
+}
+
+// Eight bytes are read as two words: each is one load and one swap of bytes.
 fn read_8(s: &[u8], at: usize) -> u64
     requires { ⌜ at + 8 ≤ length (now s) ⌝ }
     ensures { λ r. ⌜ r ≡ be (now (s .entry)) at 8 ⌝ }
 {
-    read_be(s, at, 4) * 4294967296 + read_be(s, at + 4, 4)
+    (read_word(s, at) as u64) * WORD_RANGE + (read_word(s, at + 4) as u64)
 }
 
 fn write_8(out: &mut [u8], at: usize, v: u64)
     requires { ⌜ at + 8 ≤ length (now out) ⌝ }
     ensures { λ _. ⌜ now (out .exit) ≡ sets (now (out .entry)) at (leBytes 8 v) ⌝ }
 {
-    write_le(out, at, 4, v);
-    write_le(out, at + 4, 4, v / 4294967296);
+    write_word(out, at, (v % WORD_RANGE) as u32);
+    write_word(out, at + 4, (v / WORD_RANGE) as u32);
 }
 
 // The number of eight bytes at `at`.

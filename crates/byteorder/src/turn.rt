@@ -10,13 +10,16 @@ use descriptor::header::size_at;
 use descriptor::inside::inside_of;
 use descriptor::width::width;
 use flattened::order::Order;
+ghost use mathlib.Core.Path.{_≡_};
+ghost use Rattle.descriptor.specs.Header.{codeIn};
+ghost use Rattle.descriptor.specs.Width.{widthOf};
 ghost use Rattle.flattened.specs.Walk.{repeat, walk, walkAll};
 ghost use Rattle.flattened.specs.inner.Order.{orderOf};
 ghost use Rattle.flattened.specs.inner.Types.{typeAt, typesAt, TypeStands, RowStands};
 ghost use Rattle.byteorder.specs.inner.Turning.{Turnable, Turned};
 
-// The value of the type at p.
-pub fn turn_value(
+// The value of the type at p, which is no scalar.
+fn turn_value(
     d: &[u8],
     p: usize,
     s: &[u8],
@@ -26,16 +29,11 @@ pub fn turn_value(
     left: usize,
 ) -> usize
     requires { ⌜ TypeStands (now d) p left ⌝ }
+    requires { ⌜ widthOf (codeIn (now d) p) ≡ 0 ⌝ }
     requires { ⌜ Turnable (walk (orderOf o) (typeAt (now d) p) (now s) at) (now s) (now out) at ⌝ }
     ensures { λ r. ⌜ Turned (walk (orderOf o) (typeAt (now (d .entry)) p) (now (s .entry)) at) (now (s .entry)) (now (out .entry)) (now (out .exit)) r ⌝ }
 {
-    let code = code_at(d, p);
-    let w = width(code);
-    if w != 0 {
-        turn_scalars(s, out, at, code, w, 1);
-        return at + w;
-    }
-    let k = kind_of(code);
+    let k = kind_of(code_at(d, p));
     if let Kind::Text = k {
         return turn_texts(s, out, 1, at, o);
     }
@@ -48,7 +46,7 @@ pub fn turn_value(
 }
 
 // n values of the type at p, one after another.
-fn turn_values(
+pub fn turn_values(
     d: &[u8],
     p: usize,
     n: usize,
@@ -72,10 +70,33 @@ fn turn_values(
     if let Kind::Text = k {
         return turn_texts(s, out, n, from, o);
     }
+    if let Kind::Cluster = k {
+        let inside = inside_of(d, p);
+        return turn_rows(d, inside.at, inside.children, n, s, out, from, o, left - 1);
+    }
+    turn_rows(d, p, 1, n, s, out, from, o, left)
+}
+
+// n times the values of the k types that stand in a row from `start` on.
+fn turn_rows(
+    d: &[u8],
+    start: usize,
+    k: usize,
+    n: usize,
+    s: &[u8],
+    out: &mut [u8],
+    from: usize,
+    o: Order,
+    left: usize,
+) -> usize
+    requires { ⌜ RowStands (now d) k start left ⌝ }
+    requires { ⌜ Turnable (repeat (λ a. walkAll (orderOf o) (typesAt (now d) k start) (now s) a) n from) (now s) (now out) from ⌝ }
+    ensures { λ r. ⌜ Turned (repeat (λ a. walkAll (orderOf o) (typesAt (now (d .entry)) k start) (now (s .entry)) a) n from) (now (s .entry)) (now (out .entry)) (now (out .exit)) r ⌝ }
+{
     let mut at = from;
     let mut i = 0;
     while i < n {
-        at = turn_value(d, p, s, out, at, o, left);
+        at = turn_row(d, start, k, s, out, at, o, left);
         i += 1;
     }
     at
@@ -100,7 +121,14 @@ fn turn_row(
     let mut at = from;
     let mut i = 0;
     while i < k {
-        at = turn_value(d, p, s, out, at, o, left);
+        let code = code_at(d, p);
+        let w = width(code);
+        if w != 0 {
+            turn_scalars(s, out, at, code, w, 1);
+            at += w;
+        } else {
+            at = turn_value(d, p, s, out, at, o, left);
+        }
         p += size_at(d, p);
         i += 1;
     }

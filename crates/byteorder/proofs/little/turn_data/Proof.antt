@@ -32,8 +32,8 @@ returns-2 c =
     let q = turn-small (orderOf (a .o)) (now (a .d)) (now (a .s)) (now (a .out)) whole (c .before .if2 .taken) in
     (c .answered .ensures ∙ ap (λ (x : Written). x .answer) q, ap (λ (x : Written). x .out) q)
 
-turn-value-requires : tie.Need-turn-value-requires
-turn-value-requires c κs =
+turn-values-requires : tie.Need-turn-values-requires
+turn-values-requires c κs =
     let a = c .before .before .before .before .before .before .before .before .args in
     let whole = check-accepts (orderOf (a .o)) (now (a .d)) (now (a .s)) (now (a .out)) (ap (λ (x : Answer). x .number) (sym (c .before .before .before .before .check-ordered .ensures)) ∙ c .before .before .if1 .left) in
     (accepted-stands (orderOf (a .o)) (now (a .d)) (now (a .s)) (now (a .out)) whole, accepted-turnable (orderOf (a .o)) (now (a .d)) (now (a .s)) (now (a .out)) whole (c .before .if2 .left))
@@ -51,7 +51,7 @@ returns-3 : tie.Need-returns-3
 returns-3 c =
     let a = c .before .before .before .before .before .before .before .before .before .before .before .before .args in
     let whole = check-accepts (orderOf (a .o)) (now (a .d)) (now (a .s)) (now (a .out)) (ap (λ (x : Answer). x .number) (sym (c .before .before .before .before .before .before .before .before .check-ordered .ensures)) ∙ c .before .before .before .before .before .before .if1 .left) in
-    let q = turn-written (orderOf (a .o)) (now (a .d)) (now (a .s)) (now (a .out)) whole (c .before .before .before .before .before .if2 .left) _ _ (c .before .before .before .turn-value .ensures) in
+    let q = turn-written (orderOf (a .o)) (now (a .d)) (now (a .s)) (now (a .out)) whole (c .before .before .before .before .before .if2 .left) _ _ (c .before .before .before .turn-values .ensures) in
     (c .answered2 .ensures ∙ ap (λ (x : Written). x .answer) q, ap (λ (x : Written). x .out) q)
 
 pub turn-data-spec : {M : Type 1} → statement M
@@ -62,7 +62,7 @@ turn-data-spec =
     returns
     answered-requires
     returns-2
-    turn-value-requires
+    turn-values-requires
     answered-requires-2
     same-length
     returns-3)

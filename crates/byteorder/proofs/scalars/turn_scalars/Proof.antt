@@ -1,5 +1,5 @@
 -- `turn_scalars` meets its contract: the halves of complex numbers, or whole numbers.
-use mathlib.Core.Path.{_≡_, sym, ap, _∙_}
+use mathlib.Core.Path.{sym, _∙_}
 use native.Mathlib.Omega.{arith}
 use denote.Ref.{now}
 use Rattle.byteorder.specs.inner.Turning.{turnedRun}

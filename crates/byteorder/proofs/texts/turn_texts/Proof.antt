@@ -1,6 +1,5 @@
 -- `turn_texts` meets its contract. The invariant: with the strings that are left, the output becomes what is promised.
 use Prim.Native.Nat.{_-_}
-use native.Mathlib.Omega.{arith}
 use denote.Ref.{now}
 use Rattle.flattened.specs.Walk.{textAt}
 use Rattle.flattened.specs.inner.Order.{orderOf}
