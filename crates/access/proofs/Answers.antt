@@ -1,19 +1,19 @@
 -- From a data check and the spot at a path to the answers: a refusal of the descriptor or of the data, or what is asked of the data that
 -- was accepted. Rests on the number of a refusal, which is never 0.
-use mathlib.Core.Path.{_≡_, refl, sym, ap, subst, _∙_}
-use mathlib.Core.Bool.{Bool, true, false}
+use mathlib.Core.Path.{_≡_, refl, sym, ap, _∙_}
+use mathlib.Core.Bool.{true}
 use mathlib.Core.List.{List}
-use Prim.Native.Nat.{ℕ, zero, suc, _+_, _-_, _<_, _≤_}
+use Prim.Native.Nat.{ℕ, _-_, _≤_}
 use native.Mathlib.Omega.{arith}
 use borrow.Author.Tests.{leb-true}
 use lib.Dec.{leb, eqb}
 use lib.ListN.{length}
 use Rattle.descriptor.specs.Limits.{depthLimit, dataLimit}
 use Rattle.descriptor.specs.Tree.{Tree}
-use Rattle.descriptor.specs.Outcome.{Outcome, refused, read, andThen, require, judge}
+use Rattle.descriptor.specs.Outcome.{Outcome, refused, read, judge}
 use Rattle.descriptor.specs.Check.{checked}
 use Rattle.descriptor.specs.Answers.{refusal, accepted}
-use Rattle.descriptor.specs.inner.Standing.{isRead, nextOf}
+use Rattle.descriptor.specs.inner.Standing.{isRead}
 use Rattle.descriptor.specs.declared.answer.Answer.{Answer}
 use Rattle.descriptor.proofs.Places as places
 use Rattle.descriptor.proofs.Outcomes.{Holds, found, holds-read, holds-self, holds-require, holds-andThen}
@@ -22,10 +22,9 @@ use Rattle.flattened.specs.Answers.{dataCheck}
 use Rattle.flattened.specs.Order.{big}
 use Rattle.flattened.specs.Token.{Token}
 use Rattle.flattened.specs.Walk.{walk, walked}
-use Rattle.flattened.specs.inner.Types.{typeOf, typeAt, TypeStands, DataAt}
+use Rattle.flattened.specs.inner.Types.{typeOf, typeAt}
 use Rattle.flattened.proofs.Checking.{top-stands}
 use Rattle.flattened.proofs.Refusals.{refused-number}
-use Rattle.access.specs.Path.{Spot, spotOf, noPart, partOf, located}
 use Rattle.access.specs.inner.Spots.{Lies, spot}
 use Rattle.access.proofs.Outcomes.{is-read}
 

@@ -1,34 +1,33 @@
 -- A step into an array of accepted data: it leads nowhere from the element count on, and else past as many elements. The count is cut at
 -- 2^32, which no step number reaches. Rests on the laws of values in a row.
-use mathlib.Core.Path.{_≡_, refl, sym, ap, subst, _∙_}
-use mathlib.Core.Bool.{Bool, true, false}
+use mathlib.Core.Path.{_≡_, sym, ap, _∙_}
+use mathlib.Core.Bool.{true}
 use mathlib.Core.List.{List, _∷_}
-use Prim.Native.Nat.{ℕ, zero, suc, _+_, _-_, _*_, _^_, _<_, _≤_, min}
+use Prim.Native.Nat.{ℕ, zero, _-_, _^_, _<_, _≤_, min}
 use native.Mathlib.Omega.{arith}
 use borrow.Author.Tests.{lt-ltb, le-ltb}
 use lib.ListN.{length}
 use Rattle.descriptor.specs.Limits.{depthLimit}
-use Rattle.descriptor.specs.Outcome.{Outcome, refused, read, andThen, require}
+use Rattle.descriptor.specs.Outcome.{Outcome, refused, read, andThen}
 use Rattle.descriptor.specs.Tree.{dimensions, nil, cons}
 use Rattle.descriptor.specs.inner.Standing.{isRead, nextOf}
 use Rattle.descriptor.proofs.Outcomes.{holds-read}
 use Rattle.flattened.specs.Order.{big}
-use Rattle.flattened.specs.Token.{Token, sizes}
-use Rattle.flattened.specs.Walk.{token, arrayAt, repeat, walk, walkAll}
+use Rattle.flattened.specs.Token.{sizes}
+use Rattle.flattened.specs.Walk.{token, arrayAt, repeat, walk}
 use Rattle.flattened.specs.inner.Cursor.{cursor}
 use Rattle.flattened.specs.inner.Sizes.{elementCap, cappedSizes}
-use Rattle.flattened.specs.inner.Types.{typeAt, TypeStands, DataAt}
+use Rattle.flattened.specs.inner.Types.{typeAt}
 use Rattle.flattened.specs.declared.cursor.Cursor.{Cursor}
-use Rattle.flattened.specs.declared.sizes.Sizes.{Sizes}
 use Rattle.flattened.specs.declared.sizes.Sizes.the-variants.{Count, Refused}
 use Rattle.flattened.proofs.Arms.{walk-one}
 use Rattle.flattened.proofs.Forward.{sizes-end}
-use Rattle.access.specs.Path.{Spot, memberAt, stepAt}
+use Rattle.access.specs.Path.{memberAt, stepAt}
 use Rattle.access.specs.inner.Past.{valuesAt, Values, pastValues}
-use Rattle.access.specs.inner.Spots.{Lies, ArrayLies, spot, reached, Known, Reaches}
+use Rattle.access.specs.inner.Spots.{ArrayLies, reached, Known, Reaches}
 use Rattle.access.specs.declared.reach.Reach.the-variants.{To, Lost}
 use Rattle.access.proofs.Outcomes.{Got, got-read, then-first, then-second, then-next}
-use Rattle.access.proofs.Runs.{Inside, values-inside, first-values, value-read}
+use Rattle.access.proofs.Runs.{values-inside, first-values, value-read}
 use Rattle.access.proofs.Types.{deeper}
 
 module _ (d : List ℕ) (p dims left : ℕ) (s : List ℕ) (at : ℕ) (lies : ArrayLies d p dims left s at) (low : left ≤ depthLimit) where

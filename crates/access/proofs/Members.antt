@@ -1,7 +1,7 @@
 -- A step into a cluster of accepted data: what the loop over the members before it keeps is that the spot from here on is the spot from
 -- the start. Rests on the laws of types in a row.
-use mathlib.Core.Path.{_≡_, refl, sym, ap, subst, _∙_}
-use mathlib.Core.Bool.{Bool, true, false}
+use mathlib.Core.Path.{_≡_, sym, ap, subst, _∙_}
+use mathlib.Core.Bool.{true}
 use mathlib.Core.List.{List}
 use Prim.Native.Nat.{ℕ, zero, suc, _+_, _-_, _<_, _≤_}
 use native.Mathlib.Nat.{sub-zero}
@@ -9,16 +9,15 @@ use native.Mathlib.Omega.{arith}
 use lib.ListN.{length}
 use Rattle.descriptor.specs.Header.{sizeIn}
 use Rattle.descriptor.specs.Limits.{depthLimit}
-use Rattle.descriptor.specs.Outcome.{Outcome, refused, read, andThen}
-use Rattle.descriptor.specs.Tree.{Tree, Forest, nil, cons}
+use Rattle.descriptor.specs.Outcome.{refused, read}
+use Rattle.descriptor.specs.Tree.{Forest, cons}
 use Rattle.descriptor.specs.inner.Standing.{isRead, nextOf}
 use Rattle.flattened.specs.Order.{big}
-use Rattle.flattened.specs.Token.{Token}
 use Rattle.flattened.specs.Walk.{walk, walkAll}
-use Rattle.flattened.specs.inner.Types.{typeAt, typesAt, TypeStands, RowStands, DataAt}
+use Rattle.flattened.specs.inner.Types.{typeAt, typesAt}
 use Rattle.flattened.specs.declared.cursor.Cursor.{Cursor}
 use Rattle.flattened.proofs.Types.{RowTurn, row-turn}
-use Rattle.access.specs.Path.{Spot, memberAt}
+use Rattle.access.specs.Path.{memberAt}
 use Rattle.access.specs.inner.Past.{valuesAt, Values, pastValues}
 use Rattle.access.specs.inner.Spots.{Lies, RowLies, spot, reached, Known, Reaches}
 use Rattle.access.specs.declared.reach.Reach.the-variants.{To, Lost}

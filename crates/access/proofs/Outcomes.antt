@@ -1,5 +1,5 @@
 -- What was read, and the parts of what was read: where a whole is read, so is each part of it. Rests on the definitions of outcomes alone.
-use mathlib.Core.Path.{_≡_, refl, sym, ap, subst, _∙_}
+use mathlib.Core.Path.{_≡_, refl, ap, subst}
 use mathlib.Core.Bool.{true}
 use mathlib.Core.List.{List, _++_}
 use Prim.Native.Nat.{ℕ}

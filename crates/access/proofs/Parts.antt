@@ -1,15 +1,13 @@
 -- The answer to a view: a refusal of the descriptor or of the data, a step that leads nowhere, or the part up to where its type's data
 -- ends. Rests on the laws of answers.
-use mathlib.Core.Path.{_≡_, refl, sym, ap, subst, _∙_}
-use mathlib.Core.Bool.{true}
+use mathlib.Core.Path.{_≡_, sym, ap, subst, _∙_}
 use mathlib.Core.List.{List}
 use Prim.Native.Nat.{ℕ, _+_, _-_, _<_, _≤_}
 use native.Mathlib.Omega.{arith}
 use lib.ListN.{length, take, drop}
 use lib.Seq.{slice, take-add, drop-at, length-take-le}
 use Rattle.descriptor.specs.Limits.{depthLimit}
-use Rattle.descriptor.specs.Tree.{Tree}
-use Rattle.descriptor.specs.Outcome.{Outcome, refused, read, andThen, judge}
+use Rattle.descriptor.specs.Outcome.{Outcome, read, andThen, judge}
 use Rattle.descriptor.specs.Answers.{refusal, accepted}
 use Rattle.descriptor.specs.inner.Standing.{isRead, nextOf}
 use Rattle.descriptor.specs.declared.answer.Answer.{Answer}

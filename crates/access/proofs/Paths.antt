@@ -1,15 +1,14 @@
 -- A path in accepted data: what the loop over its steps keeps is that the spot from here on is the spot from the start.
 -- Rests on what a step reaches.
 use mathlib.Core.Path.{_≡_, refl, sym, ap, subst, _∙_}
-use mathlib.Core.List.{List, [], _∷_}
-use Prim.Native.Nat.{ℕ, zero, suc, _+_, _-_, _<_, _≤_}
-use native.Mathlib.Nat.{sub-zero}
+use mathlib.Core.List.{List}
+use Prim.Native.Nat.{ℕ, _+_, _-_, _<_, _≤_}
 use native.Mathlib.Numerals.{add-one}
 use native.Mathlib.Omega.{arith}
 use lib.ListN.{length, getD, drop, drop-of-length-le}
 use lib.Seq.{drop-cons}
 use Rattle.descriptor.specs.Limits.{depthLimit}
-use Rattle.descriptor.specs.Outcome.{Outcome, refused, read, andThen}
+use Rattle.descriptor.specs.Outcome.{Outcome, read, andThen}
 use Rattle.flattened.specs.inner.Types.{typeAt}
 use Rattle.flattened.specs.declared.cursor.Cursor.{Cursor}
 use Rattle.access.specs.Path.{Spot, stepInto, spotAt, spotOf}

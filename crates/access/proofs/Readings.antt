@@ -1,7 +1,6 @@
 -- The answer to a reading of a value: a refusal, a step that leads nowhere, 31 where there is no single number, or the value. A number's
 -- bytes are there, since the data was walked. Rests on the laws of answers and of values.
-use mathlib.Core.Path.{_≡_, refl, sym, ap, subst, _∙_}
-use mathlib.Core.Bool.{Bool, true, false}
+use mathlib.Core.Path.{_≡_, refl, sym, ap, _∙_}
 use mathlib.Core.List.{List}
 use Prim.Native.Nat.{ℕ, _+_, _-_, _<_, _≤_}
 use native.Mathlib.Decide.{decLt}
@@ -10,7 +9,6 @@ use lib.ListN.{length}
 use Rattle.number.specs.Endian.{be}
 use Rattle.descriptor.specs.Header.{codeIn}
 use Rattle.descriptor.specs.Limits.{depthLimit}
-use Rattle.descriptor.specs.Tree.{Tree}
 use Rattle.descriptor.specs.Outcome.{Outcome, refused, read, andThen, require, judge}
 use Rattle.descriptor.specs.Answers.{refusal, accepted}
 use Rattle.descriptor.specs.Width.{widthOf}
@@ -25,10 +23,10 @@ use Rattle.flattened.specs.inner.Types.{typeAt}
 use Rattle.flattened.specs.declared.cursor.Cursor.{Cursor}
 use Rattle.flattened.proofs.Cases.{walk-number}
 use Rattle.flattened.proofs.Judged.{ruled-cut}
-use Rattle.flattened.proofs.Types.{TypeMade, type-made}
+use Rattle.flattened.proofs.Types.{type-made}
 use Rattle.access.specs.Path.{Spot, spotOf}
 use Rattle.access.specs.Values.{valueOf, isValue, codeOf, valueAt, numberOf, noValue, readValue}
-use Rattle.access.specs.inner.Spots.{Lies, spot, reached, Known, Reaches}
+use Rattle.access.specs.inner.Spots.{Lies, spot, reached, Reaches}
 use Rattle.access.specs.declared.reach.Reach.{Reach}
 use Rattle.access.specs.declared.reach.Reach.the-variants.{To, Lost}
 use Rattle.access.specs.declared.value.Reading.{Reading}

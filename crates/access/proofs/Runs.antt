@@ -1,24 +1,22 @@
 -- Values of one type in a row, in accepted data: where their extent is fixed, n of them end n times that many bytes on, the numbers that
 -- are judged included, since they were accepted. Rests on the laws of extents.
-use mathlib.Core.Path.{_≡_, refl, sym, ap, _∙_}
+use mathlib.Core.Path.{_≡_, sym, ap, _∙_}
 use mathlib.Core.Bool.{Bool, true}
 use mathlib.Core.List.{List}
-use Prim.Native.Nat.{ℕ, zero, suc, _+_, _-_, _*_, _<_, _≤_}
+use Prim.Native.Nat.{ℕ, suc, _+_, _-_, _*_, _<_, _≤_}
 use native.Mathlib.Omega.{arith}
 use lib.ListN.{length}
-use Rattle.descriptor.specs.Outcome.{Outcome, refused, read}
+use Rattle.descriptor.specs.Outcome.{refused, read}
 use Rattle.descriptor.specs.inner.Standing.{isRead, nextOf}
 use Rattle.descriptor.proofs.Outcomes.{holds-read}
 use Rattle.flattened.specs.Order.{big}
-use Rattle.flattened.specs.Token.{Token}
 use Rattle.flattened.specs.Walk.{follow, repeat, walk}
 use Rattle.flattened.specs.inner.Cursor.{cursor}
 use Rattle.flattened.specs.inner.Extent.{extentOf}
 use Rattle.flattened.specs.inner.Progress.{progress}
-use Rattle.flattened.specs.inner.Types.{typeAt, TypeStands, DataAt}
+use Rattle.flattened.specs.inner.Types.{typeAt}
 use Rattle.flattened.specs.declared.cursor.Cursor.{Cursor}
 use Rattle.flattened.specs.declared.extent.Extent.the-variants.{Fixed}
-use Rattle.flattened.specs.declared.progress.Progress.{Progress}
 use Rattle.flattened.specs.declared.progress.Progress.the-variants.{Walked, Refused}
 use Rattle.flattened.proofs.Extents.{run-ends}
 use Rattle.flattened.proofs.Forward.{walk-forward, repeat-forward}
@@ -26,7 +24,7 @@ use Rattle.flattened.proofs.Progresses.{progress-reads, progress-refused}
 use Rattle.flattened.proofs.Repeats.{repeat-one, repeat-split}
 use Rattle.flattened.proofs.Types.{type-solid}
 use Rattle.access.specs.inner.Past.{valuesAt, Values, pastValues}
-use Rattle.access.proofs.Outcomes.{Got, got-read, next-is, is-read, follow-first, follow-second}
+use Rattle.access.proofs.Outcomes.{Got, got-read, next-is, follow-first, follow-second}
 
 module _ (d : List ℕ) (p n : ℕ) (s : List ℕ) (at : ℕ) (values : Values d p n s at) where
   got : Got (valuesAt d p n s at)

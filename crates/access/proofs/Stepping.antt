@@ -1,28 +1,27 @@
 -- A step into a value of accepted data, by the kind of its type: into an array, into a cluster, or nowhere. Rests on what types are made of.
 use mathlib.Core.Path.{_≡_, refl, sym, ap, subst, _∙_}
-use mathlib.Core.Bool.{Bool, true, false}
+use mathlib.Core.Bool.{true}
 use mathlib.Core.List.{List}
-use Prim.Native.Nat.{ℕ, zero, suc, _+_, _-_, _<_, _≤_}
+use Prim.Native.Nat.{ℕ, _+_, _-_, _<_, _≤_}
 use native.Mathlib.Omega.{arith}
-use lib.ListN.{length}
-use Rattle.descriptor.specs.Codes.{Kind, array, cluster, kindOf}
+use Rattle.descriptor.specs.Codes.{array, cluster, kindOf}
 use Rattle.descriptor.specs.Header.{codeIn}
 use Rattle.descriptor.specs.Limits.{depthLimit, dimensionLimit}
-use Rattle.descriptor.specs.Outcome.{Outcome, refused}
+use Rattle.descriptor.specs.Outcome.{refused}
 use Rattle.descriptor.specs.Tree.{Fields, empty, items, pairs, text, dimensions, members, Tree, node, Forest, nil, cons, countOf, childCount}
 use Rattle.descriptor.specs.inner.Standing.{isRead, insideOf}
 use Rattle.descriptor.specs.declared.inside.Inside.{Inside}
 use Rattle.flattened.specs.Order.{big}
 use Rattle.flattened.specs.Walk.{walk, walkAll}
 use Rattle.flattened.specs.inner.Arrays.{elementsAt}
-use Rattle.flattened.specs.inner.Types.{typeAt, typesAt, TypeStands, RowStands, DataAt, fieldsKind}
+use Rattle.flattened.specs.inner.Types.{typeAt, typesAt, TypeStands, RowStands, fieldsKind}
 use Rattle.flattened.proofs.Arms.{walk-array, walk-cluster, walk-one}
-use Rattle.flattened.proofs.Cases.{it, hasInside, counted-inside, types-inside, row-inside}
+use Rattle.flattened.proofs.Cases.{hasInside, counted-inside, types-inside, row-inside}
 use Rattle.flattened.proofs.Types.{TypeMade, type-made, type-deep, Counted}
-use Rattle.access.specs.Path.{Spot, memberAt, stepAt, stepInto}
+use Rattle.access.specs.Path.{memberAt, stepAt, stepInto}
 use Rattle.access.specs.inner.Spots.{Lies, ArrayLies, RowLies, reached, Known, Reaches}
 use Rattle.access.specs.declared.reach.Reach.{Reach}
-use Rattle.access.specs.declared.reach.Reach.the-variants.{To, Lost}
+use Rattle.access.specs.declared.reach.Reach.the-variants.{Lost}
 use Rattle.access.proofs.Types.{only-type}
 
 module _ (i : ℕ) (f : Forest) (k : ℕ) (s : List ℕ) (at : ℕ) where

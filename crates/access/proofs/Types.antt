@@ -1,16 +1,15 @@
 -- The types that a step meets: with more of the depth left, and the one type inside an array. Rests on what types are made of.
-use mathlib.Core.Path.{_≡_, refl, sym, ap, subst, _∙_}
+use mathlib.Core.Path.{_≡_, ap, _∙_}
 use mathlib.Core.List.{List}
-use Prim.Native.Nat.{ℕ, _+_, _-_, _<_, _≤_}
+use Prim.Native.Nat.{ℕ, _+_, _-_, _≤_}
 use native.Mathlib.Omega.{arith}
 use Rattle.descriptor.specs.Header.{sizeIn}
 use Rattle.descriptor.specs.Limits.{depthLimit}
 use Rattle.descriptor.specs.Tree.{Forest, nil, cons}
-use Rattle.descriptor.specs.Outcome.{Outcome}
-use Rattle.descriptor.specs.inner.Standing.{standingRow, forestOf}
-use Rattle.descriptor.proofs.Standing.{row-none, standing-low}
+use Rattle.descriptor.specs.inner.Standing.{forestOf}
+use Rattle.descriptor.proofs.Standing.{row-none}
 use Rattle.flattened.specs.inner.Types.{typeAt, typesAt, TypeStands, RowStands}
-use Rattle.flattened.proofs.Types.{RowTurn, row-turn}
+use Rattle.flattened.proofs.Types.{row-turn}
 
 -- a type goes no deeper than the limit
 pub deeper : {d : List ℕ} {p left : ℕ} → TypeStands d p left → left ≤ depthLimit → TypeStands d p depthLimit

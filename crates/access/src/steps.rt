@@ -10,7 +10,6 @@ use flattened::cursor::Cursor;
 use flattened::order::Order;
 use flattened::sizes::Sizes;
 use flattened::sizes::size_words;
-ghost use mathlib.Core.Path.{_≡_};
 ghost use Prim.Native.Nat.{_+_, _-_, _^_, _<_};
 ghost use Rattle.descriptor.specs.Limits.{depthLimit};
 ghost use Rattle.descriptor.specs.Tree.{dimensions, nil, cons};

@@ -1,12 +1,11 @@
 -- `view` meets its contract: the bytes from the part's start on, as many as it is long.
-use mathlib.Core.Path.{_≡_, sym, ap, _∙_}
-use Prim.Native.Nat.{ℕ, _+_, _-_, _≤_}
+use mathlib.Core.Path.{_≡_, ap, _∙_}
+use Prim.Native.Nat.{_+_, _-_}
 use native.Mathlib.Omega.{arith}
 use lib.ListN.{length}
 use denote.Ref.{now, ptr}
 use borrow.Author.Needs.{needs}
 use lib.Seq.{slice}
-use mathlib.Core.List.{List}
 use Rattle.access.specs.Path.{located}
 use Rattle.access.specs.declared.part.Part.{Part}
 use Rattle.access.proofs.Parts.{cut-same}

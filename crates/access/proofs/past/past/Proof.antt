@@ -1,5 +1,5 @@
 -- `past` meets its contract: one multiplication where the extent is fixed, else the walk.
-use mathlib.Core.Path.{_≡_, sym, ap, _∙_}
+use mathlib.Core.Path.{sym, _∙_}
 use native.Mathlib.Omega.{arith}
 use denote.Ref.{now}
 use Rattle.flattened.specs.inner.Order.{orderOf}

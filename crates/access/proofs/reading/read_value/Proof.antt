@@ -1,8 +1,7 @@
 -- `read_value` meets its contract: a refusal, a step that leads nowhere, no single number, or the value.
-use mathlib.Core.Path.{_≡_, sym, ap, _∙_}
-use Prim.Native.Nat.{ℕ, _+_, _-_, _≤_}
+use mathlib.Core.Path.{ap, _∙_}
+use Prim.Native.Nat.{_-_}
 use native.Mathlib.Omega.{arith}
-use lib.ListN.{length}
 use denote.Ref.{now}
 use borrow.Author.Needs.{needs}
 use Rattle.descriptor.specs.declared.answer.Answer.{Answer}

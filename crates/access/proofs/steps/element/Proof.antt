@@ -1,9 +1,8 @@
 -- `element` meets its contract: the size words, and the elements before.
-use mathlib.Core.Path.{_≡_, sym, ap, _∙_}
-use Prim.Native.Nat.{ℕ, _-_, _≤_}
+use mathlib.Core.Path.{sym, _∙_}
+use Prim.Native.Nat.{_-_}
 use native.Mathlib.Omega.{arith}
 use denote.Ref.{now}
-use Rattle.descriptor.specs.Limits.{depthLimit}
 use Rattle.flattened.specs.inner.Order.{orderOf}
 use Rattle.access.proofs.Elements.{sizes-lost, element-out, element-values, element-at}
 use borrow.Author.Needs.{needs}

@@ -1,10 +1,8 @@
 -- `member` meets its contract. The loop's invariant: the member from here on is the member from the start.
-use mathlib.Core.Path.{_≡_, refl, sym, ap, _∙_}
-use Prim.Native.Nat.{ℕ, _+_, _-_, _<_, _≤_}
+use mathlib.Core.Path.{refl, ap}
+use Prim.Native.Nat.{ℕ, _+_, _-_}
 use native.Mathlib.Omega.{arith}
-use lib.ListN.{length}
 use denote.Ref.{now}
-use Rattle.descriptor.specs.Header.{sizeIn}
 use Rattle.descriptor.proofs.Bodies.{header-room}
 use Rattle.access.proofs.Members.{MemberLoop, member-begin, member-lies, member-value, member-size, member-again, member-found, member-none}
 use borrow.Author.Needs.{needs}

@@ -1,13 +1,12 @@
 -- `spot_at` meets its contract. The loop's invariant: the spot from here on is the spot from the start.
-use mathlib.Core.Path.{_≡_, refl, sym, ap, subst, _∙_}
-use mathlib.Core.List.{List}
-use Prim.Native.Nat.{ℕ, _+_, _-_, _<_, _≤_}
+use mathlib.Core.Path.{refl, subst}
+use Prim.Native.Nat.{_+_, _-_}
 use native.Mathlib.Omega.{arith}
 use lib.ListN.{length, getD}
 use denote.Ref.{now}
 use Rattle.descriptor.specs.Limits.{depthLimit}
 use Rattle.flattened.specs.inner.Types.{typeAt}
-use Rattle.access.specs.Path.{stepInto, spotOf}
+use Rattle.access.specs.Path.{stepInto}
 use Rattle.access.specs.inner.Spots.{Reaches}
 use Rattle.access.specs.declared.reach.Reach.{Reach}
 use Rattle.access.proofs.Paths.{PathLoop, path-begin, path-again, path-lost, path-done}

@@ -1,7 +1,6 @@
 -- `step` meets its contract: into an array, into a cluster, or nowhere.
 use mathlib.Core.Path.{_≡_, sym, ap, _∙_}
 use mathlib.Core.List.{_∷_, []}
-use Prim.Native.Nat.{ℕ}
 use denote.Ref.{now}
 use types.Run.{miss}
 use borrow.Author.Needs.{needs}

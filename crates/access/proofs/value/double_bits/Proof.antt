@@ -1,5 +1,4 @@
 -- `double_bits` meets its contract: only a NaN differs from itself.
-use mathlib.Core.Path.{_≡_}
 use lib.Ieee.{binary64}
 use borrow.Author.Needs.{needs}
 use Rattle.access.proofs.Signs.{not-nan, nan-bits}

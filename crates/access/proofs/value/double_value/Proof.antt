@@ -1,5 +1,5 @@
 -- `double_value` meets its contract: a number or a NaN.
-use mathlib.Core.Path.{_≡_, sym, ap, _∙_}
+use mathlib.Core.Path.{sym, ap, _∙_}
 use borrow.Author.Needs.{needs}
 use Rattle.access.specs.Values.{ofDouble}
 use borrow.Author.Needs.{needs}

@@ -1,5 +1,5 @@
 -- `value_bits` meets its contract, case by case.
-use mathlib.Core.Path.{_≡_, sym, ap, _∙_}
+use mathlib.Core.Path.{sym, ap, _∙_}
 use mathlib.Core.Bool.{Bool, cond}
 use mir.Syntax.{w64}
 use mir.ValLaws.{toZ-ofZ}

@@ -1,5 +1,5 @@
 -- `value_kind` meets its contract, case by case.
-use mathlib.Core.Path.{_≡_, sym, ap}
+use mathlib.Core.Path.{sym, ap}
 use borrow.Author.Needs.{needs}
 use Rattle.access.specs.Values.{valueKind}
 use borrow.Author.Needs.{needs}
