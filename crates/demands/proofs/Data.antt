@@ -40,7 +40,7 @@ walked-all t s =
     holds-require (eqb q (length s)) _ _ (λ whole. found (leb-true _ _ short, (eqb-true q (length s) whole, e)))))
 
 -- and what is so is walked
-all-walked : (t : Tree) (s : List ℕ) (ts : List Token) → length s ≤ dataLimit → walk big t s 0 ≡ read (length s) ts → walked big t s ≡ read (length s) ts
+pub all-walked : (t : Tree) (s : List ℕ) (ts : List Token) → length s ≤ dataLimit → walk big t s 0 ≡ read (length s) ts → walked big t s ≡ read (length s) ts
 unfolding walked
 all-walked t s ts short e = rw (le-leb (length s) dataLimit short, e, eq-eqb (length s) (length s) refl) refl
 

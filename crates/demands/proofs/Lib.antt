@@ -6,6 +6,8 @@ pub mod Data
 pub mod Turned
 pub mod Shape
 pub mod Pieces
+pub mod Parts
+pub mod Bits
 pub mod Moved
 pub mod Names
 pub mod Members

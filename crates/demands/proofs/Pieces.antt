@@ -73,7 +73,7 @@ module _ (s : List ℕ) where
       holds-require (leb (at + 4 + numberAt o s at 4) (length s)) 21 at
       (λ e. found (over-one string at (at + 4 + numberAt o s at 4) (omega arith) (leb-true _ _ e)))))
 
-  goes-repeat : (f : ℕ → Outcome (List Token)) → ((a : ℕ) → a ≤ length s → Goes s a (f a)) → (n at : ℕ) → at ≤ length s
+  pub goes-repeat : (f : ℕ → Outcome (List Token)) → ((a : ℕ) → a ≤ length s → Goes s a (f a)) → (n at : ℕ) → at ≤ length s
       → Goes s at (repeat f n at)
   unfolding repeat
   goes-repeat f each zero at h = found (over-none at h)
