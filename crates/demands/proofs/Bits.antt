@@ -241,7 +241,7 @@ module _ (d : List ℕ) (x : Described d) (s : List ℕ) where
           → Reads s (located d s p) (readValue d s p)
       leads e lost w =
           let same : readValue d s p .answer .number ≡ 30 =
-                ap (λ (r : Reading). r .answer .number) (read-spot ∙ ap (λ (o : Outcome Spot). judge noValue 4 (andThen o (λ _ y. numberOf s y)) given) e) in
+          ap (λ (r : Reading). r .answer .number) (read-spot ∙ ap (λ (o : Outcome Spot). judge noValue 4 (andThen o (λ _ y. numberOf s y)) given) e) in
           absurd (omega arith)
       leads e (met {y = y} l) w = valued l (holds-read refl w) e (isValue (valueAt s y)) refl
 
