@@ -1,5 +1,6 @@
--- Demand 2, values by path: a value that is read is that of the big-endian bytes of its part. The public entry whose contract uses these
--- definitions is read_value. Rests on the definitions of paths and values, and on the parts at paths.
+-- Document 01's values "whose bits equal the big-endian bytes of the piece": a value that is read by path is that of its part, and its bits are
+-- the part's bytes, of a signed number modulo 256 ^ width. The public entry whose contract uses these definitions is read_value.
+-- Rests on the parts at paths, on the values of codes and on the laws of numbers.
 use mathlib.Core.Path.{_≡_, refl, sym, ap, subst, _∙_}
 use mathlib.Core.Bool.{Bool, true, false, not, cond, _||_}
 use mathlib.Core.Logic.{_⊎_, ⊎-elim}
@@ -24,7 +25,7 @@ use Rattle.number.proofs.Reading.{be-more, be-bound}
 use Rattle.number.proofs.Complement.{half-bit, stays, falls}
 use Rattle.number.proofs.Pattern.{single-bits, double-bits}
 use Rattle.descriptor.specs.Limits.{dataLimit}
-use Rattle.descriptor.specs.Codes.{plain, enumeration, quantity, string, array, cluster, kindOf, isArray, between, booleanCode}
+use Rattle.descriptor.specs.Codes.{plain, enumeration, kindOf, isArray, between, booleanCode}
 use Rattle.descriptor.specs.Tree.{empty, items, pairs, text, dimensions, members, Tree, node, Forest, nil, cons}
 use Rattle.descriptor.specs.Encoding.{Bytes, FieldsFit, WellFormed, AllWellFormed}
 use Rattle.descriptor.specs.Width.{widthOf}
@@ -64,44 +65,24 @@ pub data Number (c : ℕ) : Type 0 where
 bounds : (low high c : ℕ) → between low high c ≡ true → (low ≤ c) × (c ≤ high)
 bounds low high c e = let parts = and-true (leb low c) (leb c high) e in (leb-true _ _ (parts .0), leb-true _ _ (parts .1))
 
+-- by either way that a test comes out
+either : {A : Type 0} (b : Bool) → (b ≡ true → A) → (b ≡ false → A) → A
+either true f g = f refl
+either false f g = g refl
+
 -- a code that has a value is one of them
 number : (c v : ℕ) → isValue (valueOf c v) ≡ true → Number c
 unfolding valueOf isValue
-number c v e = t1 (between 1 4 c) refl
-  where
-    t8 : (b : Bool) → eqb c 33 ≡ b → between 1 4 c ≡ false → between 5 8 c ≡ false → between 21 23 c ≡ false → eqb c 9 ≡ false → eqb c 25 ≡ false
-        → eqb c 10 ≡ false → eqb c 26 ≡ false → Number c
-    t8 true h a1 a2 a3 a4 a5 a6 a7 = flag (eqb-true c 33 h)
-    t8 false h a1 a2 a3 a4 a5 a6 a7 = let none : isValue (valueOf c v) ≡ false = simp (a1, a2, a3, a4, a5, a6, a7, h) in impossible (sym none ∙ e)
-
-    t7 : (b : Bool) → eqb c 26 ≡ b → between 1 4 c ≡ false → between 5 8 c ≡ false → between 21 23 c ≡ false → eqb c 9 ≡ false → eqb c 25 ≡ false
-        → eqb c 10 ≡ false → Number c
-    t7 true h a1 a2 a3 a4 a5 a6 = double (_⊎_.inr (eqb-true c 26 h))
-    t7 false h a1 a2 a3 a4 a5 a6 = t8 (eqb c 33) refl a1 a2 a3 a4 a5 a6 h
-
-    t6 : (b : Bool) → eqb c 10 ≡ b → between 1 4 c ≡ false → between 5 8 c ≡ false → between 21 23 c ≡ false → eqb c 9 ≡ false → eqb c 25 ≡ false → Number c
-    t6 true h a1 a2 a3 a4 a5 = double (_⊎_.inl (eqb-true c 10 h))
-    t6 false h a1 a2 a3 a4 a5 = t7 (eqb c 26) refl a1 a2 a3 a4 a5 h
-
-    t5 : (b : Bool) → eqb c 25 ≡ b → between 1 4 c ≡ false → between 5 8 c ≡ false → between 21 23 c ≡ false → eqb c 9 ≡ false → Number c
-    t5 true h a1 a2 a3 a4 = single (_⊎_.inr (eqb-true c 25 h))
-    t5 false h a1 a2 a3 a4 = t6 (eqb c 10) refl a1 a2 a3 a4 h
-
-    t4 : (b : Bool) → eqb c 9 ≡ b → between 1 4 c ≡ false → between 5 8 c ≡ false → between 21 23 c ≡ false → Number c
-    t4 true h a1 a2 a3 = single (_⊎_.inl (eqb-true c 9 h))
-    t4 false h a1 a2 a3 = t5 (eqb c 25) refl a1 a2 a3 h
-
-    t3 : (b : Bool) → between 21 23 c ≡ b → between 1 4 c ≡ false → between 5 8 c ≡ false → Number c
-    t3 true h a1 a2 = item (bounds 21 23 c h .0) (bounds 21 23 c h .1)
-    t3 false h a1 a2 = t4 (eqb c 9) refl a1 a2 h
-
-    t2 : (b : Bool) → between 5 8 c ≡ b → between 1 4 c ≡ false → Number c
-    t2 true h a1 = natural (bounds 5 8 c h .0) (bounds 5 8 c h .1)
-    t2 false h a1 = t3 (between 21 23 c) refl a1 h
-
-    t1 : (b : Bool) → between 1 4 c ≡ b → Number c
-    t1 true h = integer (bounds 1 4 c h .0) (bounds 1 4 c h .1)
-    t1 false h = t2 (between 5 8 c) refl h
+number c v e =
+    either (between 1 4 c) (λ h. let l = bounds 1 4 c h in integer (l .0) (l .1)) (λ a1.
+    either (between 5 8 c) (λ h. let l = bounds 5 8 c h in natural (l .0) (l .1)) (λ a2.
+    either (between 21 23 c) (λ h. let l = bounds 21 23 c h in item (l .0) (l .1)) (λ a3.
+    either (eqb c 9) (λ h. single (_⊎_.inl (eqb-true c 9 h))) (λ a4.
+    either (eqb c 25) (λ h. single (_⊎_.inr (eqb-true c 25 h))) (λ a5.
+    either (eqb c 10) (λ h. double (_⊎_.inl (eqb-true c 10 h))) (λ a6.
+    either (eqb c 26) (λ h. double (_⊎_.inr (eqb-true c 26 h))) (λ a7.
+    either (eqb c 33) (λ h. flag (eqb-true c 33 h)) (λ a8.
+    let none : isValue (valueOf c v) ≡ false = simp (a1, a2, a3, a4, a5, a6, a7, a8) in impossible (sym none ∙ e)))))))))
 
 -- and they are no strings, arrays or clusters
 measured : {c : ℕ} → Number c → isMeasured (kindOf c) ≡ true
@@ -135,7 +116,8 @@ module _ (s : List ℕ) where
   step-formed g i (node c (dimensions n) f m) k at w =
       holds-andThen (holds-self (arrayAt big s n at)) (λ next n _.
       holds-require (ltb k n) 30 i (λ _.
-      holds-andThen (holds-self (repeat (λ p. walkAll big f s p) k next)) (λ start _ _. member-formed (isArray (kindOf c)) i f zero start (w .inside))))
+      holds-andThen (holds-self (repeat (λ p. walkAll big f s p) k next)) (λ start _ _.
+      member-formed (isArray (kindOf c)) i f zero start (w .inside))))
   step-formed g i (node c (members n) f m) k at w = member-formed (isArray (kindOf c)) i f k at (w .inside)
 
   path-formed : (p : List ℕ) (i : ℕ) (x : Spot) → Formed (x .type) → Holds (λ _ y. Formed (y .type)) (spotAt p i s x)
@@ -239,9 +221,9 @@ module _ (d : List ℕ) (x : Described d) (s : List ℕ) where
 
       leads : {o : Outcome Spot} → spotAt p 0 s (top d x s) ≡ o → Meets s 0 (length s) o → Holds (λ _ y. Formed (y .type)) o
           → Reads s (located d s p) (readValue d s p)
-      leads e lost w =
-          let same : readValue d s p .answer .number ≡ 30 =
-          ap (λ (r : Reading). r .answer .number) (read-spot ∙ ap (λ (o : Outcome Spot). judge noValue 4 (andThen o (λ _ y. numberOf s y)) given) e) in
+      leads e (lost {place = place}) w =
+          let other : readValue d s p ≡ noValue 30 4 place = read-spot ∙ rw e refl in
+          let same : readValue d s p .answer .number ≡ 30 = ap (λ (r : Reading). r .answer .number) other in
           absurd (omega arith)
       leads e (met {y = y} l) w = valued l (holds-read refl w) e (isValue (valueAt s y)) refl
 

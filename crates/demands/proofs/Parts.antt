@@ -1,5 +1,5 @@
--- Demand 2, parts by path: "the empty path is the whole data", and the part at a path lies inside the part at every shorter path. The public
--- entries whose contracts use these definitions are locate and view. Rests on the definitions of the walk and of paths, and on where walks end.
+-- Document 01's "the empty path is the whole data", and the part at a path lies inside the part at every shorter path. The public entries whose
+-- contracts use these definitions are locate and view. Rests on the definitions of the walk and of paths, and on where walks end.
 use mathlib.Core.Path.{_≡_, refl, ap, _∙_}
 use mathlib.Core.Bool.{Bool, true, false}
 use mathlib.Core.List.{List, [], _∷_, _++_}
