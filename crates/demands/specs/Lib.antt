@@ -1,2 +1,3 @@
 pub mod Cases
+pub mod DataCases
 pub mod Refusals
