@@ -62,11 +62,11 @@ pub data Number (c : ℕ) : Type 0 where
   double : (c ≡ 10) ⊎ (c ≡ 26) → Number c
   flag : c ≡ 33 → Number c
 
-bounds : (low high c : ℕ) → between low high c ≡ true → (low ≤ c) × (c ≤ high)
+pub bounds : (low high c : ℕ) → between low high c ≡ true → (low ≤ c) × (c ≤ high)
 bounds low high c e = let parts = and-true (leb low c) (leb c high) e in (leb-true _ _ (parts .0), leb-true _ _ (parts .1))
 
 -- by either way that a test comes out
-either : {A : Type 0} (b : Bool) → (b ≡ true → A) → (b ≡ false → A) → A
+pub either : {A : Type 0} (b : Bool) → (b ≡ true → A) → (b ≡ false → A) → A
 either true f g = f refl
 either false f g = g refl
 
@@ -85,7 +85,7 @@ number c v e =
     let none : isValue (valueOf c v) ≡ false = simp (a1, a2, a3, a4, a5, a6, a7, a8) in impossible (sym none ∙ e)))))))))
 
 -- and they are no strings, arrays or clusters
-measured : {c : ℕ} → Number c → isMeasured (kindOf c) ≡ true
+pub measured : {c : ℕ} → Number c → isMeasured (kindOf c) ≡ true
 unfolding isMeasured kindOf allAre kindNumber
 measured {c} (integer l h) = ap isMeasured (among plain 14 1 refl c l (omega arith))
 measured {c} (natural l h) = ap isMeasured (among plain 14 1 refl c (omega arith) (omega arith))
@@ -95,9 +95,9 @@ measured (double e) = ⊎-elim (λ h. ap (λ (k : ℕ). isMeasured (kindOf k)) h
 measured (flag h) = ap (λ (k : ℕ). isMeasured (kindOf k)) h
 
 -- a type as "How a descriptor is built" has it
-record Formed (t : Tree) : Type 0 where
-  inArray : Bool
-  formed : WellFormed inArray t
+pub record Formed (t : Tree) : Type 0 where
+  pub inArray : Bool
+  pub formed : WellFormed inArray t
 
 module _ (s : List ℕ) where
   -- a path leads from such types to such types
@@ -120,7 +120,7 @@ module _ (s : List ℕ) where
       member-formed (isArray (kindOf c)) i f zero start (w .inside))))
   step-formed g i (node c (members n) f m) k at w = member-formed (isArray (kindOf c)) i f k at (w .inside)
 
-  path-formed : (p : List ℕ) (i : ℕ) (x : Spot) → Formed (x .type) → Holds (λ _ y. Formed (y .type)) (spotAt p i s x)
+  pub path-formed : (p : List ℕ) (i : ℕ) (x : Spot) → Formed (x .type) → Holds (λ _ y. Formed (y .type)) (spotAt p i s x)
   unfolding spotAt
   path-formed [] i x w = found w
   path-formed (k ∷ ks) i x w = holds-andThen (step-formed (w .inArray) i (x .type) k (x .start) (w .formed)) (λ _ y h. path-formed ks (i + 1) y h)
@@ -199,7 +199,7 @@ module _ (d : List ℕ) (x : Described d) (s : List ℕ) where
 
   module _ (within : length s ≤ dataLimit) (all : UsesAll (x .tree) s) (p : List ℕ) where
     -- the value is that at the path's spot
-    read-spot : readValue d s p ≡ judge noValue 4 (andThen (spotAt p 0 s (top d x s)) (λ _ y. numberOf s y)) given
+    pub read-spot : readValue d s p ≡ judge noValue 4 (andThen (spotAt p 0 s (top d x s)) (λ _ y. numberOf s y)) given
     unfolding readValue
     read-spot = rw (described-read d x, all-walked (x .tree) s (all .tokens) within (all .walks)) refl
 

@@ -8,6 +8,8 @@ pub mod Shape
 pub mod Pieces
 pub mod Parts
 pub mod Bits
+pub mod Reached
+pub mod There
 pub mod Moved
 pub mod Names
 pub mod Members

@@ -272,7 +272,7 @@ module _ (d : List ℕ) (x : Described d) (s : List ℕ) where
 
   module _ (within : length s ≤ dataLimit) (all : UsesAll (x .tree) s) where
     -- the part is that of the spot at the path
-    located-spot : (p : List ℕ) → located d s p ≡ judge noPart 4 (andThen (spotAt p 0 s top) (λ _ y. partOf s y)) (λ part. part)
+    pub located-spot : (p : List ℕ) → located d s p ≡ judge noPart 4 (andThen (spotAt p 0 s top) (λ _ y. partOf s y)) (λ part. part)
     unfolding located
     located-spot p = rw (described-read d x, all-walked (x .tree) s (all .tokens) within (all .walks)) refl
 

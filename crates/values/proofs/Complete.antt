@@ -139,7 +139,7 @@ sizes-product [] = refl
 sizes-product (n ∷ ns) = ap (λ (k : ℕ). n * k) (sizes-product ns)
 
 -- an array's size words
-sizes-walk : (o : Order) (s : List ℕ) (k p : ℕ) (ns : List ℕ) → length ns ≡ k → AllBelow lengthLimit ns → Here s p (inOrder o 4 ns)
+pub sizes-walk : (o : Order) (s : List ℕ) (k p : ℕ) (ns : List ℕ) → length ns ≡ k → AllBelow lengthLimit ns → Here s p (inOrder o 4 ns)
     → arrayAt o s k p ≡ read (p + 4 * k) (product ns)
 unfolding arrayAt
 sizes-walk o s k p ns l b h =
