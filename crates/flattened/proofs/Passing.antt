@@ -1,13 +1,12 @@
 -- Elements that are passed in one step are those that the walk reads, element by element; and an array is its size words, those elements,
 -- and the walk of the others. Rests on the laws of extents, of the largest number, of the capped count and of rows split in two.
 use mathlib.Core.Path.{_≡_, refl, sym, ap, subst, _∙_}
-use mathlib.Core.Bool.{true, false}
+use mathlib.Core.Bool.{false}
 use mathlib.Core.List.{List, [], _∷_}
 use Prim.Native.Nat.{ℕ, suc, _+_, _-_, _*_, _/_, _<_, _≤_, min}
 use native.Mathlib.Nat.{add-zero, mul-le-mul-right, div-mul-le-self, div-lt-iff-lt-mul}
 use native.Mathlib.Decide.{decLt}
 use native.Mathlib.Omega.{arith}
-use borrow.Author.Tests.{ltb-true}
 use lib.ListN.{length}
 use Rattle.descriptor.specs.Limits.{dataLimit}
 use Rattle.descriptor.specs.Header.{codeIn}
@@ -22,24 +21,20 @@ use Rattle.flattened.specs.Walk.{token, arrayAt, repeat, walk}
 use Rattle.flattened.specs.inner.Cursor.{cursor}
 use Rattle.flattened.specs.inner.Progress.{progress, plus, Reads}
 use Rattle.flattened.specs.inner.Sizes.{elementCap, cappedSizes}
-use Rattle.flattened.specs.inner.Extent.{typeRule, judges, extentOf}
+use Rattle.flattened.specs.inner.Extent.{typeRule, extentOf}
 use Rattle.flattened.specs.inner.Types.{typeAt, Solid}
-use Rattle.flattened.specs.inner.Largest.{largest}
-use Rattle.flattened.specs.inner.Arrays.{elementsAt, allKeep, Passes, resumed, Resumable, FrontMet}
+use Rattle.flattened.specs.inner.Arrays.{elementsAt, EachKeeps, Passes, resumed, Resumable, FrontMet}
 use Rattle.flattened.specs.declared.arrays.Front.the-variants.{Over, Rest}
 use Rattle.flattened.specs.declared.arrays.Passed.{Passed}
 use Rattle.flattened.specs.declared.cursor.Cursor.{Cursor}
-use Rattle.flattened.specs.declared.extent.Rule.{Rule}
-use Rattle.flattened.specs.declared.extent.Rule.the-variants.{Any, Below}
 use Rattle.flattened.specs.declared.extent.Extent.the-variants.{Fixed}
 use Rattle.flattened.specs.declared.progress.Progress.the-variants.{Walked, Refused}
 use Rattle.flattened.specs.declared.sizes.Sizes.the-variants as counted
 use Rattle.flattened.proofs.Capped.{repeat-capped}
-use Rattle.flattened.proofs.Cases.{extent-number, walk-number}
+use Rattle.flattened.proofs.Cases.{walk-number}
 use Rattle.flattened.proofs.Extents.{run-reads}
 use Rattle.flattened.proofs.Forward.{walk-forward, repeat-forward, sizes-end}
-use Rattle.flattened.proofs.Judged.{ruledAt}
-use Rattle.flattened.proofs.Maxima.{judged-run}
+use Rattle.flattened.proofs.Maxima.{fewer-within, judged-run}
 use Rattle.flattened.proofs.Progresses.{plus-plus, follow-reads}
 use Rattle.flattened.proofs.Repeats.{reads-at, repeat-split}
 
@@ -68,6 +63,10 @@ module _ (n w room m : ℕ) (e : m ≡ min n (room / w)) where
       let some : m * w ≤ room / w * w = mul-le-mul-right {m = m} {n = room / w} w (omega arith) in
       omega (arith, div-mul-le-self room w)
 
+-- and so do fewer of them, in the data from `at` on
+pub fitting-fewer : (n w end at m k : ℕ) → m ≡ min n ((end - at) / w) → at ≤ end → k ≤ m → at + k * w ≤ end
+fitting-fewer n w end at m k e inside h = fewer-within w at end k m h (omega (arith, fitting-room n w (end - at) m e))
+
 -- none
 pub pass-none : (o : Order) (t : Tree) (s : List ℕ) (n at : ℕ) (r : Passed) → r ≡ record { count = 0; bytes = 0; tokens = 0 } → Passes o t s n at r
 unfolding repeat
@@ -81,33 +80,19 @@ pub pass-plain : (o : Order) (t : Tree) (s : List ℕ) (w k m n at : ℕ) → Fi
     → Passes o t s n at (passedAs m w k)
 pass-plain o t s w k m n at known most room = record { most = most; reads = run-reads s t w k false (sym known) o m at refl room }
 
--- scalars that all keep their rule
+-- scalars that each keep their rule
 pub pass-kept : (d : List ℕ) (p : ℕ) → Stands d p → (w : ℕ) → w ≡ widthOf (codeIn d p) → 0 < w → (o : Order) (s : List ℕ) (m n at : ℕ) → m ≤ n
-    → at + m * w ≤ length s → allKeep (typeRule (typeAt d p)) (largest o s w at m) ≡ true
+    → at + m * w ≤ length s → EachKeeps (typeRule (typeAt d p)) o s w at m
     → Passes o (typeAt d p) s n at (record { count = m; bytes = m * w; tokens = m })
-unfolding allKeep judges
-pass-kept d p here w wide some o s m n at most room kept = go (typeRule (typeAt d p)) refl kept
-  where
-    fits : 0 < widthOf (codeIn d p)
-    fits = omega arith
-
-    one : m * 1 ≡ m
-    one = omega arith
-
-    go : (r : Rule) → r ≡ typeRule (typeAt d p) → allKeep r (largest o s w at m) ≡ true
-        → Passes o (typeAt d p) s n at (record { count = m; bytes = m * w; tokens = m })
-    go Any e keep =
-        let known : Fixed w 1 false ≡ extentOf (typeAt d p) =
-        (λ i. Fixed (wide i) 1 (judges (e i))) ∙ extent-number d p here fits in
-        record { most = most; reads = reads-at (run-reads s (typeAt d p) w 1 false (sym known) o m at refl room) refl one }
-    go (Below limit number) e keep =
-        let same : at + m * widthOf (codeIn d p) ≡ at + m * w = ap (λ (x : ℕ). at + m * x) (sym wide) in
-        let below : largest o s (widthOf (codeIn d p)) at m < limit =
-        subst (λ (x : ℕ). largest o s x at m < limit) wide (ltb-true _ limit keep) in
-        let run : Reads (repeat (λ a. walk o (typeAt d p) s a) m at) (at + m * widthOf (codeIn d p)) (m * 1) =
-        judged-run o s (codeIn d p) limit number (λ a. walk o (typeAt d p) s a)
-        (λ a. walk-number d p here fits o s a ∙ ap (λ (x : Rule). ruledAt o (codeIn d p) s a x) (sym e)) m at (omega arith) below in
-        record { most = most; reads = reads-at run same one }
+pass-kept d p here w wide some o s m n at most room kept =
+    let fits : 0 < widthOf (codeIn d p) = omega arith in
+    let one : m * 1 ≡ m = omega arith in
+    let same : at + m * widthOf (codeIn d p) ≡ at + m * w = ap (λ (x : ℕ). at + m * x) (sym wide) in
+    let each : EachKeeps (typeRule (typeAt d p)) o s (widthOf (codeIn d p)) at m =
+    subst (λ (x : ℕ). EachKeeps (typeRule (typeAt d p)) o s x at m) wide kept in
+    let run = judged-run o s (codeIn d p) (typeRule (typeAt d p)) (λ a. walk o (typeAt d p) s a) (λ a. walk-number d p here fits o s a) m at
+    (omega arith) each in
+    record { most = most; reads = reads-at run same one }
 
 -- the front of an array whose elements are of the type t
 module _ (o : Order) (k : ℕ) (t : Tree) (s : List ℕ) (at : ℕ) where

@@ -22,7 +22,7 @@ ghost use Rattle.flattened.specs.inner.Order.{orderOf};
 ghost use Rattle.flattened.specs.inner.Extent.{typeRule};
 ghost use Rattle.flattened.specs.inner.Types.{typeAt, TypeStands, DataAt};
 ghost use Rattle.flattened.specs.inner.Largest.{largest};
-ghost use Rattle.flattened.specs.inner.Arrays.{allKeep, Passes, FrontMet};
+ghost use Rattle.flattened.specs.inner.Arrays.{allKeep, EachKeeps, Passes, FrontMet};
 
 // How many elements are passed in one step, and their bytes and tokens.
 pub struct Passed {
@@ -65,6 +65,31 @@ fn all_keep(d: &[u8], p: usize, w: usize, n: usize, s: &[u8], at: usize, o: Orde
     }
 }
 
+// How many of the first of n scalars of the type at p, of w bytes each, keep its rule: all of them, or those before one that does not,
+// which is found by halves.
+fn kept(d: &[u8], p: usize, w: usize, n: usize, s: &[u8], at: usize, o: Order) -> usize
+    requires { ⌜ Stands (now d) p ⌝ }
+    requires { ⌜ w ≡ widthOf (codeIn (now d) p) ⌝ }
+    requires { ⌜ at + n * w ≤ length (now s) ⌝ }
+    ensures { λ r. ⌜ (r ≤ n) × EachKeeps (typeRule (typeAt (now (d .entry)) p)) (orderOf o) (now (s .entry)) w at r ⌝ }
+{
+    if all_keep(d, p, w, n, s, at, o) {
+        return n;
+    }
+    let mut count = 0;
+    let mut span = n;
+    while 1 < span {
+        let half = span / 2;
+        if all_keep(d, p, w, half, s, at + count * w, o) {
+            count += half;
+            span -= half;
+        } else {
+            span = half;
+        }
+    }
+    count
+}
+
 fn none_passed() -> Passed
     ensures { λ r. ⌜ r ≡ record { count = 0; bytes = 0; tokens = 0 } ⌝ }
 {
@@ -75,17 +100,16 @@ fn none_passed() -> Passed
     }
 }
 
-// How many of the first of n scalars of the type at p, of w bytes each, are passed in one step: those that fit, where none is refused.
+// How many of the first of n scalars of the type at p, of w bytes each, are passed in one step: of those that fit, the ones before the
+// first that is refused.
 fn pass_scalars(d: &[u8], p: usize, w: usize, n: usize, s: &[u8], at: usize, o: Order) -> Passed
     requires { ⌜ Stands (now d) p ⌝ }
     requires { ⌜ (w ≡ widthOf (codeIn (now d) p)) × (0 < w) ⌝ }
     requires { ⌜ DataAt (now s) at ⌝ }
     ensures { λ r. ⌜ Passes (orderOf o) (typeAt (now (d .entry)) p) (now (s .entry)) n at r ⌝ }
 {
-    let count = fitting(n, w, s.len() - at);
-    if !all_keep(d, p, w, count, s, at, o) {
-        return none_passed();
-    }
+    let most = fitting(n, w, s.len() - at);
+    let count = kept(d, p, w, most, s, at, o);
     Passed {
         count,
         bytes: count * w,
@@ -93,7 +117,7 @@ fn pass_scalars(d: &[u8], p: usize, w: usize, n: usize, s: &[u8], at: usize, o: 
     }
 }
 
-// How many of the first of n elements of the type at p are passed in one step: scalars where none is refused, and others where their
+// How many of the first of n elements of the type at p are passed in one step: scalars up to one that is refused, and others where their
 // extent is fixed and nothing in them is judged.
 fn pass(d: &[u8], p: usize, n: usize, s: &[u8], at: usize, o: Order, left: usize) -> Passed
     requires { ⌜ TypeStands (now d) p left ⌝ }

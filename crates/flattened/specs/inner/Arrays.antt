@@ -2,14 +2,15 @@
 use mathlib.Core.Path.{_≡_}
 use mathlib.Core.Bool.{Bool, true}
 use mathlib.Core.List.{List, _∷_}
-use Prim.Native.Nat.{ℕ, _+_, _≤_}
+use Prim.Native.Nat.{ℕ, _+_, _*_, _≤_, _<_}
 use lib.Dec.{ltb}
 use lib.ListN.{length}
 use Rattle.descriptor.specs.Outcome.{Outcome, read, andThen}
 use Rattle.descriptor.specs.Tree.{Tree}
-use Rattle.flattened.specs.Order.{Order}
+use Rattle.flattened.specs.Order.{Order, numberAt}
 use Rattle.flattened.specs.Token.{Token, sizes}
 use Rattle.flattened.specs.Walk.{token, arrayAt, repeat, walk}
+use Rattle.flattened.specs.inner.Extent.{keeps}
 use Rattle.flattened.specs.inner.Progress.{progress, plus, Reads}
 use Rattle.flattened.specs.declared.arrays.Front.{Front}
 use Rattle.flattened.specs.declared.arrays.Front.the-variants.{Over, Rest}
@@ -27,6 +28,10 @@ elementsAt o k f s at =
 unfoldable pub allKeep : Rule → ℕ → Bool
 allKeep Any v = true
 allKeep (Below limit number) v = ltb v limit
+
+-- each of n numbers of w bytes, the first at `at`, keeps a rule
+abbrev pub EachKeeps : Rule → Order → List ℕ → ℕ → ℕ → ℕ → Type 0
+EachKeeps r o s w at n = (i : ℕ) → i < n → keeps r (numberAt o s (at + i * w) w) ≡ true
 
 -- the first of n values of the type t that are passed in one step: the walk reads them, with so many bytes and tokens
 pub record Passes (o : Order) (t : Tree) (s : List ℕ) (n at : ℕ) (r : Passed) : Type 0 where
