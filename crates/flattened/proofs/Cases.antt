@@ -20,7 +20,7 @@ use Rattle.flattened.specs.inner.Types.{typeAt, typesAt, TypeStands, Row
 use Rattle.flattened.specs.inner.Extent.{ruleOf, typeRule, judges, extentFields, extentOf, extentAll}
 use Rattle.flattened.specs.declared.extent.Rule.{Rule}
 use Rattle.flattened.specs.declared.extent.Rule.the-variants.{Any, Below}
-use Rattle.flattened.specs.declared.extent.Extent.the-variants.{Varies, Fixed}
+use Rattle.flattened.specs.declared.extent.Extent.the-variants.{Varies, Fixed, Around}
 use Rattle.flattened.proofs.Codes.{isMeasured, some-width, no-width, enumeration-narrow, boolean-narrow}
 use Rattle.flattened.proofs.Judged.{ruledAt}
 use Rattle.flattened.proofs.Arms.{walk-scalar, rule-enumeration, rule-other, below-kind, extent-scalar, extent-cluster}
@@ -56,16 +56,26 @@ rest-members text e s a = absurd (s refl)
 rest-members (dimensions k) e s a = absurd (a refl)
 rest-members (members k) e s a = refl
 
--- fields that are no scalar's and no cluster's have no extent
-rest-varies : (c : ℕ) (b : Fields) (f : Forest) (m : Name) → isMeasured (fieldsKind b) ≡ false → (cluster ≡ fieldsKind b → ⊥)
-    → extentOf (node c b f m) ≡ Varies
+-- fields that are no scalar's, no string's and no cluster's have no extent
+rest-varies : (c : ℕ) (b : Fields) (f : Forest) (m : Name) → isMeasured (fieldsKind b) ≡ false → (string ≡ fieldsKind b → ⊥)
+    → (cluster ≡ fieldsKind b → ⊥) → extentOf (node c b f m) ≡ Varies
 unfolding isMeasured fieldsKind extentOf extentFields
-rest-varies c empty f m e h = cc
-rest-varies c (items xs) f m e h = cc
-rest-varies c (pairs ps) f m e h = cc
-rest-varies c text f m e h = refl
-rest-varies c (dimensions k) f m e h = refl
-rest-varies c (members k) f m e h = absurd (h refl)
+rest-varies c empty f m e s h = cc
+rest-varies c (items xs) f m e s h = cc
+rest-varies c (pairs ps) f m e s h = cc
+rest-varies c text f m e s h = absurd (s refl)
+rest-varies c (dimensions k) f m e s h = refl
+rest-varies c (members k) f m e s h = absurd (h refl)
+
+-- a string's
+text-around : (c : ℕ) (b : Fields) (f : Forest) (m : Name) → fieldsKind b ≡ string → extentOf (node c b f m) ≡ Around 0 0 1
+unfolding fieldsKind extentOf extentFields
+text-around c empty f m e = cc
+text-around c (items xs) f m e = cc
+text-around c (pairs ps) f m e = cc
+text-around c text f m e = refl
+text-around c (dimensions k) f m e = cc
+text-around c (members k) f m e = cc
 
 module _ (d : List ℕ) (p : ℕ) (here : Stands d p) where
   abbrev pub it : TypeMade d p
@@ -135,9 +145,13 @@ module _ (d : List ℕ) (p : ℕ) (here : Stands d p) where
   pub is-cluster : widthOf (codeIn d p) ≡ 0 → (string ≡ kindOf (codeIn d p) → ⊥) → (array ≡ kindOf (codeIn d p) → ⊥) → cluster ≡ kindOf (codeIn d p)
   is-cluster e s a = rest-members (it .fields) (not-measured e) (λ h. s (h ∙ it .kind)) (λ h. a (h ∙ it .kind)) ∙ it .kind
 
-  pub extent-other : widthOf (codeIn d p) ≡ 0 → (cluster ≡ kindOf (codeIn d p) → ⊥) → Varies ≡ extentOf (typeAt d p)
-  extent-other e h =
-      sym (ap extentOf (it .tree) ∙ rest-varies (it .code) (it .fields) (it .inner) (it .name) (not-measured e) (λ k. h (k ∙ it .kind)))
+  pub extent-text : string ≡ kindOf (codeIn d p) → Around 0 0 1 ≡ extentOf (typeAt d p)
+  extent-text k = sym (ap extentOf (it .tree) ∙ text-around (it .code) (it .fields) (it .inner) (it .name) (it .kind ∙ sym k))
+
+  pub extent-other : widthOf (codeIn d p) ≡ 0 → (string ≡ kindOf (codeIn d p) → ⊥) → (cluster ≡ kindOf (codeIn d p) → ⊥) → Varies ≡ extentOf (typeAt d p)
+  extent-other e s h =
+      sym (ap extentOf (it .tree)
+      ∙ rest-varies (it .code) (it .fields) (it .inner) (it .name) (not-measured e) (λ k. s (k ∙ it .kind)) (λ k. h (k ∙ it .kind)))
 
   -- what stands inside, where descriptors do, as the code reads it
   module _ (i : Inside) (read : i ≡ insideOf d p) where

@@ -77,6 +77,12 @@ reads-follow g r n = record {
   count = omega (arith, length-append (r .tokens) (n .tokens), r .count, n .count);
 }
 
+-- one more in a row
+pub repeat-more : (f : ℕ → Outcome (List Token)) (n at : ℕ) {p q j k : ℕ} → Reads (repeat f n at) p j → Reads (f p) q k
+    → Reads (repeat f (n + 1) at) q (j + k)
+repeat-more f n at {p} {q} {j} {k} r next =
+    rw (repeat-split f n 1 at) (reads-follow (λ a. repeat f 1 a) r (rw (repeat-one f p) next))
+
 -- n in a row of which each reads w bytes and k tokens
 pub repeat-run : (f : ℕ → Outcome (List Token)) (w k n at : ℕ) → ((i : ℕ) → i < n → Reads (f (at + i * w)) (at + i * w + w) k)
     → Reads (repeat f n at) (at + n * w) (n * k)

@@ -1,5 +1,7 @@
 // The front of an array: its size words, and the elements that are passed in one step.
 use super::cursor::Cursor;
+use super::cursor::Skip;
+use super::cursor::Word;
 use super::extent::Extent;
 use super::extent::Rule;
 use super::extent::extent_of;
@@ -22,7 +24,8 @@ ghost use Rattle.flattened.specs.inner.Order.{orderOf};
 ghost use Rattle.flattened.specs.inner.Extent.{typeRule};
 ghost use Rattle.flattened.specs.inner.Types.{typeAt, TypeStands, DataAt};
 ghost use Rattle.flattened.specs.inner.Largest.{largest};
-ghost use Rattle.flattened.specs.inner.Arrays.{allKeep, EachKeeps, Passes, FrontMet};
+ghost use Rattle.flattened.specs.declared.extent.Extent.the-variants.{Fixed, Around};
+ghost use Rattle.flattened.specs.inner.Arrays.{allKeep, EachKeeps, Passes, PassesIn, PassesEither, Across, FrontMet};
 
 // How many elements are passed in one step, and their bytes and tokens.
 pub struct Passed {
@@ -117,8 +120,78 @@ fn pass_scalars(d: &[u8], p: usize, w: usize, n: usize, s: &[u8], at: usize, o: 
     }
 }
 
-// How many of the first of n elements of the type at p are passed in one step: scalars up to one that is refused, and others where their
-// extent is fixed and nothing in them is judged.
+// So many values, of `tokens` tokens each.
+fn many(count: usize, bytes: usize, tokens: usize) -> Passed
+    requires { ⌜ count * tokens < 2 ^ 64 ⌝ }
+    ensures { λ r. ⌜ r ≡ record { count = count; bytes = bytes; tokens = count * tokens } ⌝ }
+{
+    Passed {
+        count,
+        bytes,
+        tokens: count * tokens,
+    }
+}
+
+// How many of the first of n values of w bytes and `tokens` tokens each are passed in one step: those that fit, where nothing is judged.
+fn pass_fixed(w: usize, tokens: usize, judged: bool, n: usize, s: &[u8], at: usize) -> Passed
+    requires { ⌜ (0 < w) × (w < 2 ^ 40) × (tokens ≤ w) ⌝ }
+    requires { ⌜ DataAt (now s) at ⌝ }
+    ensures { λ r. ⌜ PassesEither (Fixed w tokens judged) (now (s .entry)) n at r ⌝ }
+{
+    if judged {
+        return none_passed();
+    }
+    let count = fitting(n, w, s.len() - at);
+    many(count, count * w, tokens)
+}
+
+// Past `before` bytes, a string and `after` bytes.
+fn across(before: usize, after: usize, s: &[u8], from: Cursor, o: Order) -> Skip
+    requires { ⌜ from .at ≤ length (now s) ⌝ }
+    ensures { λ r. ⌜ Across (orderOf o) (now (s .entry)) before after (from .at) r ⌝ }
+{
+    let Skip::To(text) = from.skip(s, before) else {
+        return Skip::Cut;
+    };
+    let Word::Read(length, characters) = text.word(s, o) else {
+        return Skip::Cut;
+    };
+    let Skip::To(end) = characters.skip(s, length) else {
+        return Skip::Cut;
+    };
+    end.skip(s, after)
+}
+
+// How many of the first of n values are passed, each of `before` bytes, a string and `after` bytes, with `tokens` tokens in all: those
+// that fit.
+fn pass_around(
+    before: usize,
+    after: usize,
+    tokens: usize,
+    n: usize,
+    s: &[u8],
+    at: usize,
+    o: Order,
+) -> Passed
+    requires { ⌜ tokens ≤ before + 4 + after ⌝ }
+    requires { ⌜ DataAt (now s) at ⌝ }
+    ensures { λ r. ⌜ PassesIn (orderOf o) (Around before after tokens) (now (s .entry)) n at r ⌝ }
+{
+    let mut next = Cursor { at };
+    let mut count = 0;
+    while count < n {
+        let r = across(before, after, s, next, o);
+        let Skip::To(end) = r else {
+            return many(count, next.at - at, tokens);
+        };
+        next = end;
+        count += 1;
+    }
+    many(count, next.at - at, tokens)
+}
+
+// How many of the first of n elements of the type at p are passed in one step: scalars up to one that is refused, and others by their
+// extent.
 fn pass(d: &[u8], p: usize, n: usize, s: &[u8], at: usize, o: Order, left: usize) -> Passed
     requires { ⌜ TypeStands (now d) p left ⌝ }
     requires { ⌜ DataAt (now s) at ⌝ }
@@ -129,17 +202,10 @@ fn pass(d: &[u8], p: usize, n: usize, s: &[u8], at: usize, o: Order, left: usize
         return pass_scalars(d, p, scalar, n, s, at, o);
     }
     let extent = extent_of(d, p, left);
-    let Extent::Fixed(w, tokens, judged) = extent else {
-        return none_passed();
-    };
-    if judged {
-        return none_passed();
-    }
-    let count = fitting(n, w, s.len() - at);
-    Passed {
-        count,
-        bytes: count * w,
-        tokens: count * tokens,
+    match extent {
+        Extent::Varies => none_passed(),
+        Extent::Fixed(w, tokens, judged) => pass_fixed(w, tokens, judged, n, s, at),
+        Extent::Around(before, after, tokens) => pass_around(before, after, tokens, n, s, at, o),
     }
 }
 

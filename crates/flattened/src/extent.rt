@@ -1,4 +1,4 @@
-// What a type takes in data where that is the same for every value of it, and how the numbers of a scalar are judged.
+// What a type takes in data where that is the same for every value of it, or but for one string; and how the numbers of a scalar are judged.
 use descriptor::codes::BOOLEAN;
 use descriptor::codes::Kind;
 use descriptor::codes::kind_of;
@@ -8,9 +8,11 @@ use descriptor::inside::inside_of;
 use descriptor::width::width;
 ghost use mathlib.Core.Path.{_≡_};
 ghost use mathlib.Core.Bool.{_||_};
+ghost use Prim.Native.Nat.{_+_, _^_, _<_};
 ghost use Rattle.descriptor.specs.inner.Standing.{Stands};
 ghost use Rattle.flattened.specs.inner.Types.{typeAt, typesAt, TypeStands, RowStands};
-ghost use Rattle.flattened.specs.inner.Extent.{typeRule, judges, extentOf, extentAll};
+ghost use Rattle.flattened.specs.inner.Extent.{typeRule, judges, joint, least, tokensIn, extentOf, extentAll};
+ghost use Rattle.flattened.specs.declared.extent.Extent.the-variants.{Fixed, Around};
 
 // Each number is below a limit, else refused with a number; or any will do.
 pub enum Rule {
@@ -35,10 +37,12 @@ pub fn rule_of(d: &[u8], p: usize) -> Rule
     Rule::Any
 }
 
-// Bytes and tokens, and whether any number among them is judged; a type with a string or an array inside varies.
+// Bytes and tokens, and whether any number among them is judged; or the bytes before and after one string, and the tokens, where nothing
+// is judged. A type with an array or two strings inside varies.
 pub enum Extent {
     Varies,
     Fixed(usize, usize, bool),
+    Around(usize, usize, usize),
 }
 
 // Whether either holds.
@@ -58,6 +62,52 @@ fn judges(r: Rule) -> bool
     }
 }
 
+// Bytes and tokens and then others, where nothing is judged beside a string.
+fn fixed_joint(w: usize, k: usize, j: bool, next: Extent) -> Extent
+    requires { ⌜ (w + least next < 2 ^ 40) × (k + tokensIn next < 2 ^ 40) ⌝ }
+    ensures { λ r. ⌜ r ≡ joint (Fixed w k j) next ⌝ }
+{
+    match next {
+        Extent::Varies => Extent::Varies,
+        Extent::Fixed(v, n, i) => Extent::Fixed(w + v, k + n, either(j, i)),
+        Extent::Around(before, after, n) => {
+            if j {
+                return Extent::Varies;
+            }
+            Extent::Around(w + before, after, k + n)
+        }
+    }
+}
+
+// The bytes before and after a string and then others.
+fn around_joint(before: usize, after: usize, k: usize, next: Extent) -> Extent
+    requires { ⌜ (after + least next < 2 ^ 40) × (k + tokensIn next < 2 ^ 40) ⌝ }
+    ensures { λ r. ⌜ r ≡ joint (Around before after k) next ⌝ }
+{
+    match next {
+        Extent::Varies => Extent::Varies,
+        Extent::Fixed(v, n, i) => {
+            if i {
+                return Extent::Varies;
+            }
+            Extent::Around(before, after + v, k + n)
+        }
+        Extent::Around(b, a, n) => Extent::Varies,
+    }
+}
+
+// One extent and then another.
+fn joint(first: Extent, next: Extent) -> Extent
+    requires { ⌜ (least first + least next < 2 ^ 40) × (tokensIn first + tokensIn next < 2 ^ 40) ⌝ }
+    ensures { λ r. ⌜ r ≡ joint first next ⌝ }
+{
+    match first {
+        Extent::Varies => Extent::Varies,
+        Extent::Fixed(w, k, j) => fixed_joint(w, k, j, next),
+        Extent::Around(before, after, k) => around_joint(before, after, k, next),
+    }
+}
+
 // The extent of the type at p.
 pub fn extent_of(d: &[u8], p: usize, left: usize) -> Extent
     requires { ⌜ TypeStands (now d) p left ⌝ }
@@ -69,6 +119,9 @@ pub fn extent_of(d: &[u8], p: usize, left: usize) -> Extent
         return Extent::Fixed(w, 1, judges(rule_of(d, p)));
     }
     let k = kind_of(code);
+    if let Kind::Text = k {
+        return Extent::Around(0, 0, 1);
+    }
     if let Kind::Cluster = k {
         let inside = inside_of(d, p);
         return extent_row(d, inside.at, inside.children, left - 1);
@@ -82,20 +135,12 @@ fn extent_row(d: &[u8], start: usize, k: usize, left: usize) -> Extent
     ensures { λ r. ⌜ r ≡ extentAll (typesAt (now (d .entry)) k start) ⌝ }
 {
     let mut p = start;
-    let mut bytes = 0;
-    let mut tokens = 0;
-    let mut judged = false;
+    let mut extent = Extent::Fixed(0, 0, false);
     let mut i = 0;
     while i < k {
-        let member = extent_of(d, p, left);
-        let Extent::Fixed(w, t, j) = member else {
-            return Extent::Varies;
-        };
-        bytes += w;
-        tokens += t;
-        judged = either(judged, j);
+        extent = joint(extent, extent_of(d, p, left));
         p += size_at(d, p);
         i += 1;
     }
-    Extent::Fixed(bytes, tokens, judged)
+    extent
 }

@@ -10,11 +10,14 @@ use Rattle.descriptor.specs.Tree.{Tree}
 use Rattle.flattened.specs.Order.{Order, numberAt}
 use Rattle.flattened.specs.Token.{Token, sizes}
 use Rattle.flattened.specs.Walk.{token, arrayAt, repeat, walk}
-use Rattle.flattened.specs.inner.Extent.{keeps}
+use Rattle.flattened.specs.inner.Extent.{keeps, extentOf}
 use Rattle.flattened.specs.inner.Progress.{progress, plus, Reads}
 use Rattle.flattened.specs.declared.arrays.Front.{Front}
 use Rattle.flattened.specs.declared.arrays.Front.the-variants.{Over, Rest}
 use Rattle.flattened.specs.declared.arrays.Passed.{Passed}
+use Rattle.flattened.specs.declared.cursor.Skip.{Skip}
+use Rattle.flattened.specs.declared.cursor.Skip.the-variants.{To, Cut}
+use Rattle.flattened.specs.declared.extent.Extent.{Extent}
 use Rattle.flattened.specs.declared.extent.Rule.{Rule}
 use Rattle.flattened.specs.declared.extent.Rule.the-variants.{Any, Below}
 use Rattle.flattened.specs.declared.progress.Progress.{Progress}
@@ -37,6 +40,19 @@ EachKeeps r o s w at n = (i : ℕ) → i < n → keeps r (numberAt o s (at + i *
 pub record Passes (o : Order) (t : Tree) (s : List ℕ) (n at : ℕ) (r : Passed) : Type 0 where
   pub most : r .count ≤ n
   pub reads : Reads (repeat (λ a. walk o t s a) (r .count) at) (at + r .bytes) (r .tokens)
+
+-- of every type of the extent x
+abbrev pub PassesIn : Order → Extent → List ℕ → ℕ → ℕ → Passed → Type 0
+PassesIn o x s n at r = (t : Tree) → x ≡ extentOf t → Passes o t s n at r
+
+-- in either order
+abbrev pub PassesEither : Extent → List ℕ → ℕ → ℕ → Passed → Type 0
+PassesEither x s n at r = (o : Order) → PassesIn o x s n at r
+
+-- the cursor past so many bytes, a string and so many bytes
+unfoldable pub Across : Order → List ℕ → ℕ → ℕ → ℕ → Skip → Type 0
+Across o s before after at Cut = Unit {0}
+Across o s before after at (To c) = (c .at ≡ at + before + 4 + numberAt o s (at + before) 4 + after) × (c .at ≤ length s)
 
 -- the progress of the whole, where `rest` walks so many elements from a place on
 unfoldable pub resumed : Front → (ℕ → ℕ → Progress) → Progress

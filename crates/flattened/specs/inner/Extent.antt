@@ -1,4 +1,4 @@
--- What a type takes in data where no value of it takes more or less, and how the numbers of a scalar are judged.
+-- What a type takes in data where no value of it takes more or less, or only one string does; and how the numbers of a scalar are judged.
 use mathlib.Core.Bool.{Bool, true, false, cond, _||_}
 use Prim.Native.Nat.{ℕ, _+_}
 use lib.Dec.{ltb, eqb}
@@ -9,7 +9,7 @@ use Rattle.descriptor.specs.Width.{widthOf}
 use Rattle.flattened.specs.declared.extent.Rule.{Rule}
 use Rattle.flattened.specs.declared.extent.Rule.the-variants.{Any, Below}
 use Rattle.flattened.specs.declared.extent.Extent.{Extent}
-use Rattle.flattened.specs.declared.extent.Extent.the-variants.{Varies, Fixed}
+use Rattle.flattened.specs.declared.extent.Extent.the-variants.{Varies, Fixed, Around}
 
 -- whether a type of these fields is one number or flag
 unfoldable pub isScalar : Fields → Bool
@@ -47,18 +47,34 @@ unfoldable pub refusedBy : Rule → ℕ
 refusedBy Any = 24
 refusedBy (Below limit number) = number
 
--- one extent and then another
+-- one extent and then another: one string at most, and nothing judged beside it
 unfoldable pub joint : Extent → Extent → Extent
 joint Varies y = Varies
 joint (Fixed w k j) Varies = Varies
 joint (Fixed w k j) (Fixed v n i) = Fixed (w + v) (k + n) (j || i)
+joint (Fixed w k j) (Around b a n) = cond j Varies (Around (w + b) a (k + n))
+joint (Around b a n) Varies = Varies
+joint (Around b a n) (Fixed w k j) = cond j Varies (Around b (a + w) (n + k))
+joint (Around b a n) (Around c e m) = Varies
+
+-- the bytes that no value takes less than, a string's length word among them
+unfoldable pub least : Extent → ℕ
+least Varies = 0
+least (Fixed w k j) = w
+least (Around b a k) = b + 4 + a
+
+-- and its tokens, no more than those bytes
+unfoldable pub tokensIn : Extent → ℕ
+tokensIn Varies = 0
+tokensIn (Fixed w k j) = k
+tokensIn (Around b a k) = k
 
 -- by a type's code and fields; `inside` is the extent of the descriptors in it
 unfoldable pub extentFields : ℕ → Fields → Extent → Extent
 extentFields c empty inside = Fixed (widthOf c) 1 (judges (ruleOf c empty))
 extentFields c (items xs) inside = Fixed (widthOf c) 1 (judges (ruleOf c (items xs)))
 extentFields c (pairs ps) inside = Fixed (widthOf c) 1 (judges (ruleOf c (pairs ps)))
-extentFields c text inside = Varies
+extentFields c text inside = Around 0 0 1
 extentFields c (dimensions k) inside = Varies
 extentFields c (members k) inside = inside
 

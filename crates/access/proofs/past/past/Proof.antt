@@ -36,11 +36,8 @@ returns c =
     let a = start .args in
     fixed-past (now (a .d)) (a .p) (a .n) (now (a .s)) (a .from .at) (start .pre) _ _ _ (sym (c .before .extent .given .1) ∙ c .before .before .before .extent-of .ensures)
 
-enum-told : tie.Need-enum-told
-enum-told c = search needs
-
 walk-requires : tie.Need-walk-requires
-walk-requires c κs = let start = c .before .before .before .before .before in (start .pre .type, start .pre .bytes)
+walk-requires c κs = let start = c .before .before .before .before in (start .pre .type, start .pre .bytes)
 
 enum-known-r : tie.Need-enum-known-r
 enum-known-r c = search needs
@@ -51,14 +48,14 @@ enum-known-r-2 c = search needs
 returns-2 : tie.Need-returns-2
 unfolding orderOf
 returns-2 c =
-    let start = c .before .before .before .before .before .before .before .before .before in
+    let start = c .before .before .before .before .before .before .before .before in
     let a = start .args in
     walked-past (now (a .d)) (a .p) (a .n) (now (a .s)) (a .from .at) (start .pre) _ _ (sym (c .before .r .given .1) ∙ c .before .before .before .walk .ensures)
 
 returns-3 : tie.Need-returns-3
 unfolding orderOf
 returns-3 c =
-    let start = c .before .before .before .before .before .before .before .before .before in
+    let start = c .before .before .before .before .before .before .before .before in
     let a = start .args in
     absurd (walked-lost (now (a .d)) (a .p) (a .n) (now (a .s)) (a .from .at) (start .pre) _ _ (sym (c .before .r2 .given .1) ∙ c .before .before .before .walk .ensures))
 
@@ -71,7 +68,6 @@ past-spec =
     mul-t16
     add-t17
     returns
-    enum-told
     walk-requires
     enum-known-r
     enum-known-r-2

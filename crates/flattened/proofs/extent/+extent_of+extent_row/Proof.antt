@@ -6,18 +6,19 @@ use mathlib.Core.List.{[], _∷_}
 use Prim.Native.Nat.{_+_, _-_, ℕ, _<_}
 use native.Mathlib.Omega.{arith}
 use denote.Ref.{now}
-use Rattle.descriptor.specs.Codes.{cluster, kindOf}
+use Rattle.descriptor.specs.Codes.{string, cluster, kindOf}
+use Rattle.descriptor.specs.Header.{sizeIn}
 use Rattle.descriptor.specs.Width.{widthOf}
 use Rattle.descriptor.specs.inner.Steps.{kindIs}
 use Rattle.descriptor.specs.declared.codes.Kind.the-variants as kinds
 use Rattle.descriptor.proofs.CodeKinds.{kindNamed, known}
 use Rattle.descriptor.proofs.Bodies.{header-room}
-use Rattle.flattened.specs.inner.Extent.{judges}
+use Rattle.flattened.specs.inner.Extent.{judges, joint}
 use Rattle.flattened.specs.declared.extent.Extent.the-variants.{Fixed}
 use Rattle.flattened.proofs.Named.{not-kind}
-use Rattle.flattened.proofs.Cases.{hasInside, row-inside, extent-number, extent-members, extent-other}
+use Rattle.flattened.proofs.Cases.{hasInside, row-inside, extent-number, extent-text, extent-members, extent-other}
 use Rattle.flattened.proofs.Types.{type-deep}
-use Rattle.flattened.proofs.ExtentTurns.{ExtentLoop, extent-begin, extent-turn, extent-stop, extent-few, extent-next, extent-done}
+use Rattle.flattened.proofs.ExtentTurns.{small-least, ExtentLoop, extent-begin, extent-turn, extent-few, extent-next, extent-done}
 use borrow.Fn.Kinds.{In}
 use borrow.Fn.PlainCycle.{Measures, is, falls, and}
 use Rattle.flattened.proofs.extent.extent_of.Reads as extent-of
@@ -31,7 +32,7 @@ use Rattle.descriptor.proofs.header.code_at.Reads as code-at-reads
 use Rattle.descriptor.proofs.header.size_at.Reads as size-at-reads
 use Rattle.descriptor.proofs.inside.inside_of.Reads as inside-of-reads
 use Rattle.descriptor.proofs.width.width.Reads as width-reads
-use Rattle.flattened.proofs.extent.either.Reads as either-reads
+use Rattle.flattened.proofs.extent.joint.Reads as joint-reads
 use Rattle.flattened.proofs.extent.judges.Reads as judges-reads
 use Rattle.flattened.proofs.extent.rule_of.Reads as rule-of-reads
 use Rattle.flattened.proofs.extent.+extent_of+extent_row.{statement}
@@ -86,102 +87,105 @@ extent-of-kind-of-requires t c κs = search needs
 extent-of-enum-told : (t : ℕ) → extent-of-lts.Need-enum-told (extent-of-calls t) (extent-of-at t) extent-of.Post
 extent-of-enum-told t c = search needs
 
+extent-of-returns-2 : (t : ℕ) → extent-of-lts.Need-returns-2 (extent-of-calls t) (extent-of-at t) extent-of.Post
+unfolding kindNamed
+extent-of-returns-2 t c =
+    let a = c .before .before .before .before .before .before .before .args in
+    let kind = known _ kinds.Text (kindOf (c .before .before .before .before .before .code-at .result)) (c .before .before .kind-of .ensures) (c .enum-told .given .1) ∙ ap kindOf (c .before .before .before .before .before .code-at .ensures) in
+    extent-text (now (a .d)) (a .p) (c .before .before .before .before .before .before .before .pre .1 .here) kind
+
+extent-of-enum-told-2 : (t : ℕ) → extent-of-lts.Need-enum-told-2 (extent-of-calls t) (extent-of-at t) extent-of.Post
+extent-of-enum-told-2 t c = search needs
+
 extent-of-inside-of-requires : (t : ℕ) → extent-of-lts.Need-inside-of-requires (extent-of-calls t) (extent-of-at t) extent-of.Post
-extent-of-inside-of-requires t c κs = c .before .before .before .before .before .before .before .pre .1 .here
+extent-of-inside-of-requires t c κs = c .before .before .before .before .before .before .before .before .pre .1 .here
 
 extent-of-sub-extent-row : (t : ℕ) → extent-of-lts.Need-sub-extent-row (extent-of-calls t) (extent-of-at t) extent-of.Post
-extent-of-sub-extent-row t c = let a = c .before .before .before .before .before .before .before .before .args in type-deep (now (a .d)) (a .p) (a .left) (c .before .before .before .before .before .before .before .before .pre .1)
+extent-of-sub-extent-row t c = let a = c .before .before .before .before .before .before .before .before .before .args in type-deep (now (a .d)) (a .p) (a .left) (c .before .before .before .before .before .before .before .before .before .pre .1)
 
 extent-of-extent-row-requires : (t : ℕ) → extent-of-lts.Need-extent-row-requires (extent-of-calls t) (extent-of-at t) extent-of.Post
 unfolding kindNamed hasInside
 extent-of-extent-row-requires t c κs =
-    let a = c .before .before .before .before .before .before .before .before .args in
-    let kind = known _ kinds.Cluster (kindOf (c .before .before .before .before .before .before .code-at .result)) (c .before .before .before .kind-of .ensures) (c .before .enum-told .given .1) ∙ ap kindOf (c .before .before .before .before .before .before .code-at .ensures) in
-    (omega (arith, type-deep (now (a .d)) (a .p) (a .left) (c .before .before .before .before .before .before .before .before .pre .1), c .before .before .before .before .before .before .before .before .pre .0), row-inside (now (a .d)) (a .p) (a .left) (c .before .before .before .before .before .before .before .before .pre .1) _ (c .inside-of .ensures) (sym (ap hasInside kind)))
-
-extent-of-returns-2 : (t : ℕ) → extent-of-lts.Need-returns-2 (extent-of-calls t) (extent-of-at t) extent-of.Post
-unfolding kindNamed
-extent-of-returns-2 t c =
     let a = c .before .before .before .before .before .before .before .before .before .args in
-    let kind = known _ kinds.Cluster (kindOf (c .before .before .before .before .before .before .before .code-at .result)) (c .before .before .before .before .kind-of .ensures) (c .before .before .enum-told .given .1) ∙ ap kindOf (c .before .before .before .before .before .before .before .code-at .ensures) in
-    c .extent-row .ensures ∙ extent-members (now (a .d)) (a .p) (c .before .before .before .before .before .before .before .before .before .pre .1 .here) _ (c .before .inside-of .ensures) kind
+    let type = c .before .before .before .before .before .before .before .before .before .pre .1 in
+    let kind = known _ kinds.Cluster (kindOf (c .before .before .before .before .before .before .before .code-at .result)) (c .before .before .before .before .kind-of .ensures) (c .before .enum-told2 .given .1) ∙ ap kindOf (c .before .before .before .before .before .before .before .code-at .ensures) in
+    (omega (arith, type-deep (now (a .d)) (a .p) (a .left) type, c .before .before .before .before .before .before .before .before .before .pre .0), row-inside (now (a .d)) (a .p) (a .left) type _ (c .inside-of .ensures) (sym (ap hasInside kind)))
 
 extent-of-returns-3 : (t : ℕ) → extent-of-lts.Need-returns-3 (extent-of-calls t) (extent-of-at t) extent-of.Post
-unfolding kindIs
+unfolding kindNamed
 extent-of-returns-3 t c =
-    let a = c .before .before .before .before .before .before .args in
-    let wide = c .before .before .before .width .ensures ∙ ap widthOf (c .before .before .before .before .code-at .ensures) in
-    let other = not-kind cluster (0 ∷ 1 ∷ 2 ∷ 3 ∷ 4 ∷ 6 ∷ []) tt _ _ _ (c .before .kind-of .ensures) (c .before .before .before .before .code-at .ensures) (c .match .keys2) in
-    extent-other (now (a .d)) (a .p) (c .before .before .before .before .before .before .pre .1 .here) (omega (arith, c .before .before .if1 .left)) other
+    let a = c .before .before .before .before .before .before .before .before .before .before .args in
+    let kind = known _ kinds.Cluster (kindOf (c .before .before .before .before .before .before .before .before .code-at .result)) (c .before .before .before .before .before .kind-of .ensures) (c .before .before .enum-told2 .given .1) ∙ ap kindOf (c .before .before .before .before .before .before .before .before .code-at .ensures) in
+    c .extent-row .ensures ∙ extent-members (now (a .d)) (a .p) (c .before .before .before .before .before .before .before .before .before .before .pre .1 .here) _ (c .before .inside-of .ensures) kind
+
+extent-of-returns-4 : (t : ℕ) → extent-of-lts.Need-returns-4 (extent-of-calls t) (extent-of-at t) extent-of.Post
+unfolding kindIs
+extent-of-returns-4 t c =
+    let a = c .before .before .before .before .before .before .before .args in
+    let wide = c .before .before .before .before .width .ensures ∙ ap widthOf (c .before .before .before .before .before .code-at .ensures) in
+    let no-text = not-kind string (0 ∷ 1 ∷ 2 ∷ 4 ∷ 5 ∷ 6 ∷ []) tt _ _ _ (c .before .before .kind-of .ensures) (c .before .before .before .before .before .code-at .ensures) (c .before .match .keys2) in
+    let no-cluster = not-kind cluster (0 ∷ 1 ∷ 2 ∷ 3 ∷ 4 ∷ 6 ∷ []) tt _ _ _ (c .before .before .kind-of .ensures) (c .before .before .before .before .before .code-at .ensures) (c .match2 .keys2) in
+    extent-other (now (a .d)) (a .p) (c .before .before .before .before .before .before .before .pre .1 .here) (omega (arith, c .before .before .before .if1 .left)) no-text no-cluster
 
 abbrev extent-row-Inv-loop : extent-row-lts.InvT-loop
-extent-row-Inv-loop d start k left p₀ bytes₀ tokens₀ judged₀ i₀ p bytes tokens judged i = ExtentLoop d k start left p bytes tokens judged i
+extent-row-Inv-loop d start k left p₀ extent₀ i₀ p extent i = ExtentLoop d k start left p extent i
 
 abbrev extent-row-μ-loop : extent-row-lts.MeasureT-loop
-extent-row-μ-loop d start k left p₀ bytes₀ tokens₀ judged₀ i₀ p bytes tokens judged i = k - i
+extent-row-μ-loop d start k left p₀ extent₀ i₀ p extent i = k - i
 
 abbrev extent-row-calls : ℕ → extent-row-lts.Claims
-extent-row-calls t = (extent-of-below t, extent-of.Post, either-reads.Asked, either-reads.Learnt, size-at-reads.Asked, size-at-reads.Learnt)
+extent-row-calls t = (extent-of-below t, extent-of.Post, joint-reads.Asked, joint-reads.Learnt, size-at-reads.Asked, size-at-reads.Learnt)
 
 extent-row-loop-holds : (t : ℕ) → extent-row-lts.Need-loop-holds (extent-row-calls t) (extent-row-at t) extent-row.Post extent-row-Inv-loop extent-row-μ-loop
 extent-row-loop-holds t c = let a = c .before .args in extent-begin (now (a .d)) (a .k) (a .start) (a .left) (c .before .pre .1)
 
 extent-row-extent-of-requires : (t : ℕ) → extent-row-lts.Need-extent-of-requires (extent-row-calls t) (extent-row-at t) extent-row.Post extent-row-Inv-loop extent-row-μ-loop
-extent-row-extent-of-requires t c κs = let a = c .before .before .before .args in let l = c .before .loop in (omega (arith, c .before .before .before .pre .0), extent-turn (now (a .d)) (a .k) (a .start) (a .left) (l .p) (l .bytes) (l .tokens) (l .judged) (l .i) (l .inv) (c .loop-test .taken) .first)
+extent-row-extent-of-requires t c κs =
+    let a = c .before .before .before .args in
+    let l = c .before .loop in
+    (omega (arith, c .before .before .before .pre .0), extent-turn (now (a .d)) (a .k) (a .start) (a .left) (l .p) (l .extent) (l .i) (l .inv) (c .loop-test .taken) .first)
 
-extent-row-enum-known-member : (t : ℕ) → extent-row-lts.Need-enum-known-member (extent-row-calls t) (extent-row-at t) extent-row.Post extent-row-Inv-loop extent-row-μ-loop
-extent-row-enum-known-member t c = search needs
-
-extent-row-enum-told : (t : ℕ) → extent-row-lts.Need-enum-told (extent-row-calls t) (extent-row-at t) extent-row.Post extent-row-Inv-loop extent-row-μ-loop
-extent-row-enum-told t c = search needs
-
-extent-row-returns : (t : ℕ) → extent-row-lts.Need-returns (extent-row-calls t) (extent-row-at t) extent-row.Post extent-row-Inv-loop extent-row-μ-loop
-extent-row-returns t c =
-    let a = c .before .before .before .before .before .before .args in
-    let l = c .before .before .before .before .loop in
-    extent-stop (now (a .d)) (a .k) (a .start) (a .left) (l .p) (l .bytes) (l .tokens) (l .judged) (l .i) (l .inv) (c .before .before .before .loop-test .taken) (sym (c .enum-told .given .1) ∙ c .before .before .extent-of .ensures)
-
-extent-row-add-bytes : (t : ℕ) → extent-row-lts.Need-add-bytes (extent-row-calls t) (extent-row-at t) extent-row.Post extent-row-Inv-loop extent-row-μ-loop
-extent-row-add-bytes t c =
-    let a = c .before .before .before .before .before .before .before .args in
-    let l = c .before .before .before .before .before .loop in
-    let member = sym (c .before .member .given .1) ∙ c .before .before .before .extent-of .ensures in
-    let turn = extent-turn (now (a .d)) (a .k) (a .start) (a .left) (l .p) (l .bytes) (l .tokens) (l .judged) (l .i) (l .inv) (c .before .before .before .before .loop-test .taken) in
-    omega (arith, extent-few (now (a .d)) (a .k) (a .start) (a .left) (l .p) (l .bytes) (l .tokens) (l .judged) (l .i) (l .inv) (c .before .before .before .before .loop-test .taken) _ _ _ member .bytes, l .inv .few, turn .within, turn .rest .small)
-
-extent-row-add-tokens : (t : ℕ) → extent-row-lts.Need-add-tokens (extent-row-calls t) (extent-row-at t) extent-row.Post extent-row-Inv-loop extent-row-μ-loop
-extent-row-add-tokens t c =
-    let a = c .before .before .before .before .before .before .before .args in
-    let l = c .before .before .before .before .before .loop in
-    let member = sym (c .before .member .given .1) ∙ c .before .before .before .extent-of .ensures in
-    let turn = extent-turn (now (a .d)) (a .k) (a .start) (a .left) (l .p) (l .bytes) (l .tokens) (l .judged) (l .i) (l .inv) (c .before .before .before .before .loop-test .taken) in
-    let few = extent-few (now (a .d)) (a .k) (a .start) (a .left) (l .p) (l .bytes) (l .tokens) (l .judged) (l .i) (l .inv) (c .before .before .before .before .loop-test .taken) _ _ _ member in
-    omega (arith, few .bytes, few .tokens, l .inv .few, l .inv .counted, turn .within, turn .rest .small)
-
-extent-row-either-requires : (t : ℕ) → extent-row-lts.Need-either-requires (extent-row-calls t) (extent-row-at t) extent-row.Post extent-row-Inv-loop extent-row-μ-loop
-extent-row-either-requires t c κs = search needs
+extent-row-joint-requires : (t : ℕ) → extent-row-lts.Need-joint-requires (extent-row-calls t) (extent-row-at t) extent-row.Post extent-row-Inv-loop extent-row-μ-loop
+extent-row-joint-requires t c κs =
+    let a = c .before .before .before .before .args in
+    let l = c .before .before .loop in
+    let turn = extent-turn (now (a .d)) (a .k) (a .start) (a .left) (l .p) (l .extent) (l .i) (l .inv) (c .before .loop-test .taken) in
+    let front = small-least 0 (l .extent) (l .p) (l .inv .few) in
+    let next = small-least 1 _ (sizeIn (now (a .d)) (l .p)) (extent-few (now (a .d)) (a .k) (a .start) (a .left) (l .p) (l .extent) (l .i) (l .inv) (c .before .loop-test .taken)) in
+    rw (c .extent-of .ensures)
+    (omega (arith, front .0, next .0, turn .within, turn .rest .small), omega (arith, front .1, next .1, turn .within, turn .rest .small))
 
 extent-row-size-at-requires : (t : ℕ) → extent-row-lts.Need-size-at-requires (extent-row-calls t) (extent-row-at t) extent-row.Post extent-row-Inv-loop extent-row-μ-loop
-extent-row-size-at-requires t c κs = let a = c .before .before .before .before .before .before .before .before .args in let l = c .before .before .before .before .before .before .loop in header-room (now (a .d)) (l .p) (extent-turn (now (a .d)) (a .k) (a .start) (a .left) (l .p) (l .bytes) (l .tokens) (l .judged) (l .i) (l .inv) (c .before .before .before .before .before .loop-test .taken) .first .here)
+extent-row-size-at-requires t c κs =
+    let a = c .before .before .before .before .before .args in
+    let l = c .before .before .before .loop in
+    header-room (now (a .d)) (l .p) (extent-turn (now (a .d)) (a .k) (a .start) (a .left) (l .p) (l .extent) (l .i) (l .inv) (c .before .before .loop-test .taken) .first .here)
 
 extent-row-add-p : (t : ℕ) → extent-row-lts.Need-add-p (extent-row-calls t) (extent-row-at t) extent-row.Post extent-row-Inv-loop extent-row-μ-loop
-extent-row-add-p t c = let a = c .before .before .before .before .before .before .before .before .before .args in let l = c .before .before .before .before .before .before .before .loop in let turn = extent-turn (now (a .d)) (a .k) (a .start) (a .left) (l .p) (l .bytes) (l .tokens) (l .judged) (l .i) (l .inv) (c .before .before .before .before .before .before .loop-test .taken) in omega (arith, c .size-at .ensures .eq, turn .within, turn .rest .small)
+extent-row-add-p t c =
+    let a = c .before .before .before .before .before .before .args in
+    let l = c .before .before .before .before .loop in
+    let turn = extent-turn (now (a .d)) (a .k) (a .start) (a .left) (l .p) (l .extent) (l .i) (l .inv) (c .before .before .before .loop-test .taken) in
+    omega (arith, c .size-at .ensures .eq, turn .within, turn .rest .small)
 
 extent-row-add-i : (t : ℕ) → extent-row-lts.Need-add-i (extent-row-calls t) (extent-row-at t) extent-row.Post extent-row-Inv-loop extent-row-μ-loop
-extent-row-add-i t c = omega (arith, c .before .before .before .before .before .before .loop-test .taken)
+extent-row-add-i t c = omega (arith, c .before .before .before .loop-test .taken)
 
 extent-row-loop-less : (t : ℕ) → extent-row-lts.Need-loop-less (extent-row-calls t) (extent-row-at t) extent-row.Post extent-row-Inv-loop extent-row-μ-loop
-extent-row-loop-less t c = omega (arith, c .before .before .before .before .before .before .loop-test .taken)
+extent-row-loop-less t c = omega (arith, c .before .before .before .loop-test .taken)
 
 extent-row-loop-again : (t : ℕ) → extent-row-lts.Need-loop-again (extent-row-calls t) (extent-row-at t) extent-row.Post extent-row-Inv-loop extent-row-μ-loop
 extent-row-loop-again t c =
-    let a = c .before .before .before .before .before .before .before .before .before .args in
-    let l = c .before .before .before .before .before .before .before .loop in
-    let member = sym (c .before .before .before .member .given .1) ∙ c .before .before .before .before .before .extent-of .ensures in
-    rw (c .size-at .ensures .eq, c .before .either .ensures) (extent-next (now (a .d)) (a .k) (a .start) (a .left) (l .p) (l .bytes) (l .tokens) (l .judged) (l .i) (l .inv) (c .before .before .before .before .before .before .loop-test .taken) _ _ _ member)
+    let a = c .before .before .before .before .before .before .args in
+    let l = c .before .before .before .before .loop in
+    rw (c .size-at .ensures .eq, c .before .joint .ensures, c .before .before .extent-of .ensures)
+    (extent-next (now (a .d)) (a .k) (a .start) (a .left) (l .p) (l .extent) (l .i) (l .inv) (c .before .before .before .loop-test .taken))
 
-extent-row-returns-2 : (t : ℕ) → extent-row-lts.Need-returns-2 (extent-row-calls t) (extent-row-at t) extent-row.Post extent-row-Inv-loop extent-row-μ-loop
-extent-row-returns-2 t c = let a = c .before .before .before .args in let l = c .before .loop in extent-done (now (a .d)) (a .k) (a .start) (a .left) (l .p) (l .bytes) (l .tokens) (l .judged) (l .i) (l .inv) (c .loop-test .left)
+extent-row-returns : (t : ℕ) → extent-row-lts.Need-returns (extent-row-calls t) (extent-row-at t) extent-row.Post extent-row-Inv-loop extent-row-μ-loop
+extent-row-returns t c =
+    let a = c .before .before .before .args in
+    let l = c .before .loop in
+    extent-done (now (a .d)) (a .k) (a .start) (a .left) (l .p) (l .extent) (l .i) (l .inv) (c .loop-test .left)
 
 pub +extent-of+extent-row-spec : {M : Type 1} → statement M
 +extent-of+extent-row-spec = close μ-extent-of μ-extent-row (λ t. extent-of-lts.spec (extent-of-calls t)
@@ -194,11 +198,13 @@ pub +extent-of+extent-row-spec : {M : Type 1} → statement M
     (extent-of-returns t)
     (extent-of-kind-of-requires t)
     (extent-of-enum-told t)
+    (extent-of-returns-2 t)
+    (extent-of-enum-told-2 t)
     (extent-of-inside-of-requires t)
     (extent-of-sub-extent-row t)
     (extent-of-extent-row-requires t)
-    (extent-of-returns-2 t)
-    (extent-of-returns-3 t))
+    (extent-of-returns-3 t)
+    (extent-of-returns-4 t))
     λ t. extent-row-lts.spec (extent-row-calls t)
     (extent-row-at t)
     extent-row.Post
@@ -206,15 +212,10 @@ pub +extent-of+extent-row-spec : {M : Type 1} → statement M
     extent-row-μ-loop
     (extent-row-loop-holds t)
     (extent-row-extent-of-requires t)
-    (extent-row-enum-known-member t)
-    (extent-row-enum-told t)
-    (extent-row-returns t)
-    (extent-row-add-bytes t)
-    (extent-row-add-tokens t)
-    (extent-row-either-requires t)
+    (extent-row-joint-requires t)
     (extent-row-size-at-requires t)
     (extent-row-add-p t)
     (extent-row-add-i t)
     (extent-row-loop-less t)
     (extent-row-loop-again t)
-    (extent-row-returns-2 t)
+    (extent-row-returns t)
