@@ -74,16 +74,18 @@ module _ (d : List ℕ) (p : ℕ) (here : Stands d p) (code w : ℕ) (coded : co
   scalars-room n at out t = record { inside = scalars-done n at out _ t refl .inside; room = t .here .room }
 
   -- one
-  pub scalar-room : (at : ℕ) (out : List ℕ) → Turnable (value at) s out at → Room s out (at + 1 * w)
-  scalar-room at out t = scalars-room 1 at out (turnable-as _ _ s out at (sym (repeat-one value at)) t)
-
-  pub scalar-done : (at : ℕ) (out after : List ℕ) → Turnable (value at) s out at → after ≡ turnedRun (numberWidth code) s (1 * numberCount code) at out
+  pub scalar-done : (at : ℕ) (out after : List ℕ) → Turnable (value at) s out at → after ≡ turnedRun (numberWidth code) s (numberCount code) at out
       → Turned (value at) s out after (at + w)
   scalar-done at out after t e =
       let there : at + 1 * w ≡ at + w = omega arith in
+      let count : numberCount code ≡ 1 * numberCount code = omega arith in
       turned-as _ _ s out after (at + w) (repeat-one value at)
       (subst (λ (q : ℕ). Turned (repeat value 1 at) s out after q) there
-      (scalars-done 1 at out after (turnable-as _ _ s out at (sym (repeat-one value at)) t) e))
+      (scalars-done 1 at out after (turnable-as _ _ s out at (sym (repeat-one value at)) t)
+      (e ∙ ap (λ (k : ℕ). turnedRun (numberWidth code) s k at out) count)))
+
+  pub scalar-room : (at : ℕ) (out : List ℕ) → Turnable (value at) s out at → Room s out (at + w)
+  scalar-room at out t = record { inside = scalar-done at out _ t refl .inside; room = t .here .room }
 
 -- size words that are read
 pub record SizesRead (o : Order) (s : List ℕ) (k at n : ℕ) : Type 0 where

@@ -1,5 +1,5 @@
 -- What the loop over numbers of one width keeps: with those that are left, the output becomes what is promised. Over the width.
-use mathlib.Core.Path.{_≡_, refl, sym, ap, ap₂, _∙_}
+use mathlib.Core.Path.{_≡_, refl, sym, ap, ap₂, subst, _∙_}
 use mathlib.Core.List.{List, reverse}
 use Prim.Native.Nat.{ℕ, suc, _+_, _-_, _*_, _<_, _≤_}
 use native.Mathlib.Nat.{sub-zero, suc-mul}
@@ -38,3 +38,12 @@ module _ (w : ℕ) (s before : List ℕ) (n from : ℕ) where
     pub run-end : n ≤ i → out ≡ turnedRun w s n from before
     unfolding turnedRun
     run-end done = let none : n - i ≡ 0 = omega arith in sym (ap (λ (k : ℕ). turnedRun w s k (from + i * w) out) none) ∙ loop .same
+
+  -- two in a turn
+  pub run-two : (out : List ℕ) (i : ℕ) → RunLoop out i → i + 1 < n → (between after : List ℕ) → between ≡ turnedAt w s (from + i * w) out
+      → after ≡ turnedAt w s (from + i * w + w) between → RunLoop after (i + 2)
+  run-two out i loop more between after e h =
+      let one = run-next out i loop (omega arith) between e in
+      let place : from + i * w + w ≡ from + (i + 1) * w = omega (arith, suc-mul i w) in
+      let two : i + 1 + 1 ≡ i + 2 = omega arith in
+      subst (λ (k : ℕ). RunLoop after k) two (run-next between (i + 1) one more after (h ∙ ap (λ (p : ℕ). turnedAt w s p between) place))

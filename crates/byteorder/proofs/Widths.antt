@@ -2,7 +2,8 @@
 -- at every code. Rests on the table of widths, past which there is none.
 use mathlib.Core.Path.{_≡_, refl, sym, ap, subst, _∙_}
 use mathlib.Core.Bool.{Bool, true, false, cond, _&&_, _||_}
-use Prim.Native.Nat.{ℕ, _*_, _/_, _≤_, _<_}
+use mathlib.Core.List.{List}
+use Prim.Native.Nat.{ℕ, _+_, _*_, _/_, _≤_, _<_}
 use native.Mathlib.Nat.{mul-assoc, mul-le-mul-left}
 use native.Mathlib.Decide.{decLt}
 use native.Mathlib.Omega.{arith}
@@ -12,7 +13,7 @@ use Rattle.descriptor.specs.Codes.{isComplex}
 use Rattle.descriptor.specs.Width.{widthOf}
 use Rattle.descriptor.proofs.Sizes.{and-true}
 use Rattle.descriptor.proofs.Widths.{passes, each, none-past}
-use Rattle.byteorder.specs.inner.Turning.{numberWidth, numberCount, NumberWide}
+use Rattle.byteorder.specs.inner.Turning.{turnedAt, turnedRun, numberWidth, numberCount, NumberWide}
 
 -- a number's width is one of five
 oneOf : ℕ → Bool
@@ -56,6 +57,30 @@ number-wide c some = go (decLt c 34)
     go (yes h) = one-of (numberWidth c) (simp (ne-eqb (widthOf c) 0 (omega arith)) at (parts c h .1))
     go (no h) = absurd (omega (arith, none-past c (omega arith)))
 
+-- a number's width by the range that it is in
+module _ (w : ℕ) (wide : NumberWide w) where
+  least : (v : ℕ) → 1 < v → v ≤ w → (v < w → w ≡ 1) → w ≡ v
+  least v more low above = go (decLt v w)
+    where
+      go : Dec (v < w) → w ≡ v
+      go (yes h) = absurd (omega (arith, above h))
+      go (no h) = omega arith
+
+  pub wide-1 : w < 2 → w ≡ 1
+  wide-1 high = wide .else (λ e. omega arith) (λ e. omega arith) (λ e. omega arith) (λ e. omega arith)
+
+  pub wide-2 : 2 ≤ w → w < 4 → w ≡ 2
+  wide-2 low high = least 2 (omega arith) low (λ h. wide .else (λ e. omega arith) (λ e. omega arith) (λ e. omega arith) (λ e. omega arith))
+
+  pub wide-4 : 4 ≤ w → w < 8 → w ≡ 4
+  wide-4 low high = least 4 (omega arith) low (λ h. wide .else (λ e. omega arith) (λ e. omega arith) (λ e. omega arith) (λ e. omega arith))
+
+  pub wide-8 : 8 ≤ w → w < 16 → w ≡ 8
+  wide-8 low high = least 8 (omega arith) low (λ h. wide .else (λ e. omega arith) (λ e. omega arith) (λ e. omega arith) (λ e. omega arith))
+
+  pub wide-16 : 16 ≤ w → w ≡ 16
+  wide-16 low = least 16 (omega arith) low (λ h. wide .else (λ e. omega arith) (λ e. omega arith) (λ e. omega arith) (λ e. omega arith))
+
 -- n scalars of w bytes each, where they are two halves
 pub record Halved (c w n : ℕ) : Type 0 where
   pub wide : NumberWide (w / 2)
@@ -94,3 +119,17 @@ real-whole c w n e some real =
       width = width;
       count = (let z : n ≡ n * 1 = omega arith in z) ∙ ap (λ (k : ℕ). n * k) (sym one);
     }
+
+-- the numbers of one scalar are a run
+module _ {c w : ℕ} (s out : List ℕ) (at : ℕ) where
+  pub halves-run : Halved c w 1 → turnedAt (w / 2) s (at + w / 2) (turnedAt (w / 2) s at out) ≡ turnedRun (numberWidth c) s (numberCount c) at out
+  unfolding turnedRun
+  halves-run all =
+      let two : 2 ≡ numberCount c = omega (arith, all .count) in
+      λ i. turnedRun (all .width i) s (two i) at out
+
+  pub whole-run : Whole c w 1 → turnedAt w s at out ≡ turnedRun (numberWidth c) s (numberCount c) at out
+  unfolding turnedRun
+  whole-run all =
+      let one : 1 ≡ numberCount c = omega (arith, all .count) in
+      λ i. turnedRun (all .width i) s (one i) at out

@@ -10,7 +10,7 @@ ghost use Prim.Native.Nat.{_+_, _≤_};
 ghost use lib.ListN.{length};
 ghost use lib.Seq.{sets};
 ghost use Rattle.number.specs.Endian.{be, leBytes};
-ghost use Rattle.byteorder.specs.inner.Turning.{turnedAt, Room};
+ghost use Rattle.byteorder.specs.inner.Turning.{turnedAt, NumberWide, Room};
 
 // How many numbers four bytes can say.
 const WORD_RANGE: u64 = 4294967296;
@@ -78,4 +78,29 @@ pub fn turn_number_16(s: &[u8], out: &mut [u8], at: usize)
     let low = read_8(s, at + 8);
     write_8(out, at, low);
     write_8(out, at + 8, high);
+}
+
+// The number of w bytes at `at`. Its width is found by ranges: tests of equality become a jump by a table, which takes longer.
+pub fn turn_number(s: &[u8], out: &mut [u8], at: usize, w: usize)
+    requires { ⌜ NumberWide w ⌝ }
+    requires { ⌜ Room (now s) (now out) (at + w) ⌝ }
+    ensures { λ _. ⌜ now (out .exit) ≡ turnedAt w (now (s .entry)) at (now (out .entry)) ⌝ }
+{
+    if w < 2 {
+        out[at] = s[at];
+        return;
+    }
+    if w < 4 {
+        turn_number_2(s, out, at);
+        return;
+    }
+    if w < 8 {
+        turn_number_4(s, out, at);
+        return;
+    }
+    if w < 16 {
+        turn_number_8(s, out, at);
+        return;
+    }
+    turn_number_16(s, out, at);
 }

@@ -1,4 +1,5 @@
-// Scalars in a row: one number each, or the two halves of a complex number.
+// Scalars, one or several in a row: one number each, or the two halves of a complex number.
+use super::numbers::turn_number;
 use super::runs::turn_run;
 ghost use mathlib.Core.Path.{_≡_};
 ghost use Prim.Native.Nat.{_+_, _*_, _<_};
@@ -28,6 +29,21 @@ fn is_complex(code: u8) -> bool
         return false;
     }
     code <= LAST_COMPLEX_QUANTITY
+}
+
+// One scalar of the code `code`, of w bytes.
+pub fn turn_scalar(s: &[u8], out: &mut [u8], at: usize, code: u8, w: usize)
+    requires { ⌜ (w ≡ widthOf code) × (0 < w) ⌝ }
+    requires { ⌜ Room (now s) (now out) (at + w) ⌝ }
+    ensures { λ _. ⌜ now (out .exit) ≡ turnedRun (numberWidth code) (now (s .entry)) (numberCount code) at (now (out .entry)) ⌝ }
+{
+    if is_complex(code) {
+        let half = w / 2;
+        turn_number(s, out, at, half);
+        turn_number(s, out, at + half, half);
+        return;
+    }
+    turn_number(s, out, at, w);
 }
 
 // n scalars of the code `code`, of w bytes each.

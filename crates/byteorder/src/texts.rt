@@ -8,7 +8,7 @@ ghost use Rattle.flattened.specs.inner.Order.{orderOf};
 ghost use Rattle.byteorder.specs.inner.Turning.{Turnable, Turned};
 
 // The string at `at`.
-fn turn_text(s: &[u8], out: &mut [u8], at: usize, o: Order) -> usize
+pub fn turn_text(s: &[u8], out: &mut [u8], at: usize, o: Order) -> usize
     requires { ⌜ Turnable (textAt (orderOf o) (now s) at) (now s) (now out) at ⌝ }
     ensures { λ r. ⌜ Turned (textAt (orderOf o) (now (s .entry)) at) (now (s .entry)) (now (out .entry)) (now (out .exit)) r ⌝ }
 {

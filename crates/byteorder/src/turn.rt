@@ -1,7 +1,9 @@
 // The pass over accepted data that writes every number reversed. It runs on the accepted descriptor's own bytes, calls itself on what
 // stands inside a type with less of the depth left, and needs the byte order only for lengths and sizes.
+use super::scalars::turn_scalar;
 use super::scalars::turn_scalars;
 use super::sizes::turn_sizes;
+use super::texts::turn_text;
 use super::texts::turn_texts;
 use descriptor::codes::Kind;
 use descriptor::codes::kind_of;
@@ -35,14 +37,14 @@ fn turn_value(
 {
     let k = kind_of(code_at(d, p));
     if let Kind::Text = k {
-        return turn_texts(s, out, 1, at, o);
+        return turn_text(s, out, at, o);
     }
     let inside = inside_of(d, p);
     if let Kind::Array = k {
         let n = turn_sizes(s, out, at, inside.count, o);
         return turn_values(d, inside.at, n, s, out, at + 4 * inside.count, o, left - 1);
     }
-    turn_row(d, inside.at, inside.children, s, out, at, o, left - 1)
+    turn_rows(d, inside.at, inside.children, 1, s, out, at, o, left - 1)
 }
 
 // n values of the type at p, one after another.
@@ -77,7 +79,8 @@ pub fn turn_values(
     turn_rows(d, p, 1, n, s, out, from, o, left)
 }
 
-// n times the values of the k types that stand in a row from `start` on.
+// n times the values of the k types that stand in a row from `start` on. Both loops stand here: a call for each of the n would take as
+// long as a short row's numbers.
 fn turn_rows(
     d: &[u8],
     start: usize,
@@ -96,40 +99,20 @@ fn turn_rows(
     let mut at = from;
     let mut i = 0;
     while i < n {
-        at = turn_row(d, start, k, s, out, at, o, left);
-        i += 1;
-    }
-    at
-}
-
-// The values of the k types that stand in a row from `start` on.
-fn turn_row(
-    d: &[u8],
-    start: usize,
-    k: usize,
-    s: &[u8],
-    out: &mut [u8],
-    from: usize,
-    o: Order,
-    left: usize,
-) -> usize
-    requires { ⌜ RowStands (now d) k start left ⌝ }
-    requires { ⌜ Turnable (walkAll (orderOf o) (typesAt (now d) k start) (now s) from) (now s) (now out) from ⌝ }
-    ensures { λ r. ⌜ Turned (walkAll (orderOf o) (typesAt (now (d .entry)) k start) (now (s .entry)) from) (now (s .entry)) (now (out .entry)) (now (out .exit)) r ⌝ }
-{
-    let mut p = start;
-    let mut at = from;
-    let mut i = 0;
-    while i < k {
-        let code = code_at(d, p);
-        let w = width(code);
-        if w != 0 {
-            turn_scalars(s, out, at, code, w, 1);
-            at += w;
-        } else {
-            at = turn_value(d, p, s, out, at, o, left);
+        let mut p = start;
+        let mut j = 0;
+        while j < k {
+            let code = code_at(d, p);
+            let w = width(code);
+            if w != 0 {
+                turn_scalar(s, out, at, code, w);
+                at += w;
+            } else {
+                at = turn_value(d, p, s, out, at, o, left);
+            }
+            p += size_at(d, p);
+            j += 1;
         }
-        p += size_at(d, p);
         i += 1;
     }
     at

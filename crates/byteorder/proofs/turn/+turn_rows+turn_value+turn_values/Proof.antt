@@ -1,6 +1,6 @@
--- The pass over a value, over values of one type, over a row of types and over rows. The measure is the depth left, four times, and more
--- for more values. The invariants: with what is left to turn, the output becomes what is promised. Rests on `Parts` and `Remaining`.
-use mathlib.Core.Path.{_≡_, sym, ap, _∙_}
+-- The pass over a value, over values of one type and over rows of types. The measure is the depth left, three times, and more for more
+-- values. The invariants: with what is left to turn, the output becomes what is promised. Rests on `Parts` and `Remaining`.
+use mathlib.Core.Path.{sym, ap, _∙_}
 use mathlib.Core.List.{[], _∷_}
 use mathlib.Core.Logic.{⊎-elim}
 use Prim.Native.Nat.{ℕ, _+_, _-_, _*_, _<_}
@@ -12,7 +12,7 @@ use Rattle.descriptor.specs.inner.Steps.{kindIs}
 use Rattle.descriptor.specs.declared.codes.Kind.the-variants as kinds
 use Rattle.descriptor.proofs.CodeKinds.{kindNamed, known}
 use Rattle.descriptor.proofs.Bodies.{header-room}
-use Rattle.flattened.specs.Walk.{textAt, walk, walkAll}
+use Rattle.flattened.specs.Walk.{walk, walkAll}
 use Rattle.flattened.specs.inner.Order.{orderOf}
 use Rattle.flattened.specs.inner.Types.{typeAt, typesAt}
 use Rattle.flattened.proofs.Cases.{hasInside, row-inside, is-cluster}
@@ -26,47 +26,36 @@ use Rattle.byteorder.proofs.Parts.{turnable-as, turned-as, turned-at, s
 use borrow.Author.Needs.{needs}
 use borrow.Fn.Kinds.{In}
 use borrow.Fn.PlainCycle.{Measures, is, falls, and}
-use Rattle.byteorder.proofs.turn.turn_row.Reads as turn-row
-use Rattle.byteorder.proofs.turn.turn_row.Kinds as turn-row-kinds
-use Rattle.byteorder.proofs.turn.+turn_row+turn_rows+turn_value+turn_values.Lts-turn_row as turn-row-lts
 use Rattle.byteorder.proofs.turn.turn_rows.Reads as turn-rows
 use Rattle.byteorder.proofs.turn.turn_rows.Kinds as turn-rows-kinds
-use Rattle.byteorder.proofs.turn.+turn_row+turn_rows+turn_value+turn_values.Lts-turn_rows as turn-rows-lts
+use Rattle.byteorder.proofs.turn.+turn_rows+turn_value+turn_values.Lts-turn_rows as turn-rows-lts
 use Rattle.byteorder.proofs.turn.turn_value.Reads as turn-value
 use Rattle.byteorder.proofs.turn.turn_value.Kinds as turn-value-kinds
-use Rattle.byteorder.proofs.turn.+turn_row+turn_rows+turn_value+turn_values.Lts-turn_value as turn-value-lts
+use Rattle.byteorder.proofs.turn.+turn_rows+turn_value+turn_values.Lts-turn_value as turn-value-lts
 use Rattle.byteorder.proofs.turn.turn_values.Reads as turn-values
 use Rattle.byteorder.proofs.turn.turn_values.Kinds as turn-values-kinds
-use Rattle.byteorder.proofs.turn.+turn_row+turn_rows+turn_value+turn_values.Lts-turn_values as turn-values-lts
+use Rattle.byteorder.proofs.turn.+turn_rows+turn_value+turn_values.Lts-turn_values as turn-values-lts
+use Rattle.byteorder.proofs.scalars.turn_scalar.Reads as turn-scalar-reads
 use Rattle.byteorder.proofs.scalars.turn_scalars.Reads as turn-scalars-reads
 use Rattle.byteorder.proofs.sizes.turn_sizes.Reads as turn-sizes-reads
+use Rattle.byteorder.proofs.texts.turn_text.Reads as turn-text-reads
 use Rattle.byteorder.proofs.texts.turn_texts.Reads as turn-texts-reads
 use Rattle.descriptor.proofs.codes.kind_of.Reads as kind-of-reads
 use Rattle.descriptor.proofs.header.code_at.Reads as code-at-reads
 use Rattle.descriptor.proofs.header.size_at.Reads as size-at-reads
 use Rattle.descriptor.proofs.inside.inside_of.Reads as inside-of-reads
 use Rattle.descriptor.proofs.width.width.Reads as width-reads
-use Rattle.byteorder.proofs.turn.+turn_row+turn_rows+turn_value+turn_values.{statement}
-use Rattle.byteorder.proofs.turn.+turn_row+turn_rows+turn_value+turn_values.Tie.{close}
-
-abbrev μ-turn-row : Measures 3 turn-row-kinds.ps ℕ
-μ-turn-row κs a = 4 * a .1 .1 .1 .1 .1 .1 .1 .0 + 1
+use Rattle.byteorder.proofs.turn.+turn_rows+turn_value+turn_values.{statement}
+use Rattle.byteorder.proofs.turn.+turn_rows+turn_value+turn_values.Tie.{close}
 
 abbrev μ-turn-rows : Measures 3 turn-rows-kinds.ps ℕ
-μ-turn-rows κs a = 4 * a .1 .1 .1 .1 .1 .1 .1 .1 .0 + 2
+μ-turn-rows κs a = 3 * a .1 .1 .1 .1 .1 .1 .1 .1 .0 + 1
 
 abbrev μ-turn-value : Measures 3 turn-value-kinds.ps ℕ
-μ-turn-value κs a = 4 * a .1 .1 .1 .1 .1 .1 .0
+μ-turn-value κs a = 3 * a .1 .1 .1 .1 .1 .1 .0
 
 abbrev μ-turn-values : Measures 3 turn-values-kinds.ps ℕ
-μ-turn-values κs a = 4 * a .1 .1 .1 .1 .1 .1 .1 .0 + 3
-
-abbrev turn-row-at : ℕ → In 3 turn-row-kinds.ps
-turn-row-at t = and 3 turn-row-kinds.ps (is 3 turn-row-kinds.ps μ-turn-row t) turn-row.Pre
-
-abbrev turn-row-below : ℕ → In 3 turn-row-kinds.ps
-turn-row-below t =
-    and 3 turn-row-kinds.ps (falls 3 turn-row-kinds.ps _<_ μ-turn-row t) turn-row.Pre
+μ-turn-values κs a = 3 * a .1 .1 .1 .1 .1 .1 .1 .0 + 2
 
 abbrev turn-rows-at : ℕ → In 3 turn-rows-kinds.ps
 turn-rows-at t = and 3 turn-rows-kinds.ps (is 3 turn-rows-kinds.ps μ-turn-rows t) turn-rows.Pre
@@ -91,100 +80,20 @@ abbrev turn-values-below : ℕ → In 3 turn-values-kinds.ps
 turn-values-below t =
     and 3 turn-values-kinds.ps (falls 3 turn-values-kinds.ps _<_ μ-turn-values t) turn-values.Pre
 
-abbrev turn-row-calls : ℕ → turn-row-lts.Claims
-turn-row-calls t = (code-at-reads.Asked, code-at-reads.Learnt, width-reads.Asked, width-reads.Learnt, turn-scalars-reads.Asked, turn-scalars-reads.Learnt, turn-value-below t, turn-value.Post, size-at-reads.Asked, size-at-reads.Learnt)
-
 abbrev turn-rows-calls : ℕ → turn-rows-lts.Claims
-turn-rows-calls t = (turn-row-below t, turn-row.Post)
+turn-rows-calls t = (code-at-reads.Asked, code-at-reads.Learnt, width-reads.Asked, width-reads.Learnt, turn-scalar-reads.Asked, turn-scalar-reads.Learnt, turn-value-below t, turn-value.Post, size-at-reads.Asked, size-at-reads.Learnt)
 
 abbrev turn-value-calls : ℕ → turn-value-lts.Claims
-turn-value-calls t = (code-at-reads.Asked, code-at-reads.Learnt, kind-of-reads.Asked, kind-of-reads.Learnt, turn-texts-reads.Asked, turn-texts-reads.Learnt, inside-of-reads.Asked, inside-of-reads.Learnt, turn-sizes-reads.Asked, turn-sizes-reads.Learnt, turn-values-below t, turn-values.Post, turn-row-below t, turn-row.Post)
+turn-value-calls t = (code-at-reads.Asked, code-at-reads.Learnt, kind-of-reads.Asked, kind-of-reads.Learnt, turn-text-reads.Asked, turn-text-reads.Learnt, inside-of-reads.Asked, inside-of-reads.Learnt, turn-sizes-reads.Asked, turn-sizes-reads.Learnt, turn-values-below t, turn-values.Post, turn-rows-below t, turn-rows.Post)
 
 abbrev turn-values-calls : ℕ → turn-values-lts.Claims
 turn-values-calls t = (code-at-reads.Asked, code-at-reads.Learnt, width-reads.Asked, width-reads.Learnt, turn-scalars-reads.Asked, turn-scalars-reads.Learnt, kind-of-reads.Asked, kind-of-reads.Learnt, turn-texts-reads.Asked, turn-texts-reads.Learnt, inside-of-reads.Asked, inside-of-reads.Learnt, turn-rows-below t, turn-rows.Post)
 
-abbrev turn-row-Inv-loop : turn-row-lts.InvT-loop
-turn-row-Inv-loop d start k s out₀ from o left p₀ at₀ i₀ out p at i = RowTurns d (orderOf o) s out₀ k start from left out p at i
+abbrev turn-rows-Inv-loop2 : turn-rows-lts.InvT-loop2
+turn-rows-Inv-loop2 d start k n s out₀ from o left at₀ i p₀ j₀ out at p j = RowTurns d (orderOf o) s out₀ k start at₀ left out p at j
 
-abbrev turn-row-μ-loop : turn-row-lts.MeasureT-loop
-turn-row-μ-loop d start k s out₀ from o left p₀ at₀ i₀ out p at i = k - i
-
-turn-row-loop-holds : (t : ℕ) → turn-row-lts.Need-loop-holds (turn-row-calls t) (turn-row-at t) turn-row.Post turn-row-Inv-loop turn-row-μ-loop
-turn-row-loop-holds t c = let a = c .before .before .before .args in row-begin (now (a .d)) (orderOf (a .o)) (now (a .s)) (now (a .out)) (a .k) (a .start) (a .from) (a .left) (c .before .before .before .pre .1 .0) (c .before .before .before .pre .1 .1)
-
-turn-row-code-at-requires : (t : ℕ) → turn-row-lts.Need-code-at-requires (turn-row-calls t) (turn-row-at t) turn-row.Post turn-row-Inv-loop turn-row-μ-loop
-turn-row-code-at-requires t c κs =
-    let a = c .before .before .before .before .before .args in
-    let l = c .before .loop in
-    let turn = row-here (now (a .d)) (orderOf (a .o)) (now (a .s)) (now (a .out)) (a .k) (a .start) (a .from) (a .left) (l .out) (l .p) (l .at) (l .i) (l .inv) (c .loop-test .taken) in
-    header-room (now (a .d)) (l .p) (turn .first .here)
-
-turn-row-width-requires : (t : ℕ) → turn-row-lts.Need-width-requires (turn-row-calls t) (turn-row-at t) turn-row.Post turn-row-Inv-loop turn-row-μ-loop
-turn-row-width-requires t c κs = search needs
-
-turn-row-turn-scalars-requires : (t : ℕ) → turn-row-lts.Need-turn-scalars-requires (turn-row-calls t) (turn-row-at t) turn-row.Post turn-row-Inv-loop turn-row-μ-loop
-turn-row-turn-scalars-requires t c κs =
-    let a = c .before .before .before .before .before .before .before .before .before .args in
-    let l = c .before .before .before .before .before .loop in
-    let turn = row-here (now (a .d)) (orderOf (a .o)) (now (a .s)) (now (a .out)) (a .k) (a .start) (a .from) (a .left) (l .out) (l .p) (l .at) (l .i) (l .inv) (c .before .before .before .before .loop-test .taken) in
-    ((c .before .before .width .ensures, omega (arith, c .before .if1 .taken)), scalar-room (now (a .d)) (l .p) (turn .first .here) _ _ (c .before .before .before .code-at .ensures) (c .before .before .width .ensures) (omega (arith, c .before .if1 .taken)) (orderOf (a .o)) (now (a .s)) (l .at) (l .out) (row-ready (now (a .d)) (orderOf (a .o)) (now (a .s)) (now (a .out)) (a .k) (a .start) (a .from) (a .left) (l .out) (l .p) (l .at) (l .i) (l .inv) (c .before .before .before .before .loop-test .taken)))
-
-turn-row-add-at : (t : ℕ) → turn-row-lts.Need-add-at (turn-row-calls t) (turn-row-at t) turn-row.Post turn-row-Inv-loop turn-row-μ-loop
-turn-row-add-at t c =
-    let a = c .before .before .before .before .before .before .before .before .before .before .before .before .args in
-    let l = c .before .before .before .before .before .before .before .before .loop in
-    let turn = row-here (now (a .d)) (orderOf (a .o)) (now (a .s)) (now (a .out)) (a .k) (a .start) (a .from) (a .left) (l .out) (l .p) (l .at) (l .i) (l .inv) (c .before .before .before .before .before .before .before .loop-test .taken) in
-    omega (arith, scalar-room (now (a .d)) (l .p) (turn .first .here) _ _ (c .before .before .before .before .before .before .code-at .ensures) (c .before .before .before .before .before .width .ensures) (omega (arith, c .before .before .before .before .if1 .taken)) (orderOf (a .o)) (now (a .s)) (l .at) (l .out) (row-ready (now (a .d)) (orderOf (a .o)) (now (a .s)) (now (a .out)) (a .k) (a .start) (a .from) (a .left) (l .out) (l .p) (l .at) (l .i) (l .inv) (c .before .before .before .before .before .before .before .loop-test .taken)) .inside)
-
-turn-row-turn-value-requires : (t : ℕ) → turn-row-lts.Need-turn-value-requires (turn-row-calls t) (turn-row-at t) turn-row.Post turn-row-Inv-loop turn-row-μ-loop
-turn-row-turn-value-requires t c κs =
-    let a = c .before .before .before .before .before .before .before .before .before .args in
-    let l = c .before .before .before .before .before .loop in
-    let turn = row-here (now (a .d)) (orderOf (a .o)) (now (a .s)) (now (a .out)) (a .k) (a .start) (a .from) (a .left) (l .out) (l .p) (l .at) (l .i) (l .inv) (c .before .before .before .before .loop-test .taken) in
-    let wide = c .before .before .width .ensures ∙ ap widthOf (c .before .before .before .code-at .ensures) in
-    (omega (arith, c .before .before .before .before .before .before .before .before .before .pre .0), (turn .first, (omega (arith, c .before .if1 .left, wide), (row-ready (now (a .d)) (orderOf (a .o)) (now (a .s)) (now (a .out)) (a .k) (a .start) (a .from) (a .left) (l .out) (l .p) (l .at) (l .i) (l .inv) (c .before .before .before .before .loop-test .taken)))))
-
-turn-row-size-at-requires : (t : ℕ) → turn-row-lts.Need-size-at-requires (turn-row-calls t) (turn-row-at t) turn-row.Post turn-row-Inv-loop turn-row-μ-loop
-turn-row-size-at-requires t c κs =
-    let a = c .before .before .before .before .before .before .before .before .args in
-    let l = c .before .before .before .before .loop in
-    let turn = row-here (now (a .d)) (orderOf (a .o)) (now (a .s)) (now (a .out)) (a .k) (a .start) (a .from) (a .left) (l .out) (l .p) (l .at) (l .i) (l .inv) (c .before .before .before .loop-test .taken) in
-    header-room (now (a .d)) (l .p) (turn .first .here)
-
-turn-row-add-p : (t : ℕ) → turn-row-lts.Need-add-p (turn-row-calls t) (turn-row-at t) turn-row.Post turn-row-Inv-loop turn-row-μ-loop
-turn-row-add-p t c =
-    let a = c .before .before .before .before .before .before .before .before .before .args in
-    let l = c .before .before .before .before .before .loop in
-    let turn = row-here (now (a .d)) (orderOf (a .o)) (now (a .s)) (now (a .out)) (a .k) (a .start) (a .from) (a .left) (l .out) (l .p) (l .at) (l .i) (l .inv) (c .before .before .before .before .loop-test .taken) in
-    omega (arith, c .size-at .ensures .eq, turn .within, turn .rest .small)
-
-turn-row-add-i : (t : ℕ) → turn-row-lts.Need-add-i (turn-row-calls t) (turn-row-at t) turn-row.Post turn-row-Inv-loop turn-row-μ-loop
-turn-row-add-i t c = omega (arith, c .before .before .before .before .loop-test .taken)
-
-turn-row-loop-less : (t : ℕ) → turn-row-lts.Need-loop-less (turn-row-calls t) (turn-row-at t) turn-row.Post turn-row-Inv-loop turn-row-μ-loop
-turn-row-loop-less t c = omega (arith, c .before .before .before .before .loop-test .taken)
-
-turn-row-loop-again : (t : ℕ) → turn-row-lts.Need-loop-again (turn-row-calls t) (turn-row-at t) turn-row.Post turn-row-Inv-loop turn-row-μ-loop
-turn-row-loop-again t c =
-    let a = c .before .before .before .before .before .before .before .before .before .args in
-    let l = c .before .before .before .before .before .loop in
-    let turn = row-here (now (a .d)) (orderOf (a .o)) (now (a .s)) (now (a .out)) (a .k) (a .start) (a .from) (a .left) (l .out) (l .p) (l .at) (l .i) (l .inv) (c .before .before .before .before .loop-test .taken) in
-    let done : Turned (walk (orderOf (a .o)) (typeAt (now (a .d)) (l .p)) (now (a .s)) (l .at)) (now (a .s)) (l .out) (c .before .if1 .out) (c .before .if1 .at) =
-    ⊎-elim
-    (λ u. turned-at _ (now (a .s)) (l .out) _ _ _ _ (u .5) (u .6)
-    (scalar-done (now (a .d)) (l .p) (turn .first .here) _ _ (c .before .before .before .code-at .ensures) (c .before .before .width .ensures) (omega (arith, u .0 .taken)) (orderOf (a .o)) (now (a .s)) (l .at) (l .out) _ (row-ready (now (a .d)) (orderOf (a .o)) (now (a .s)) (now (a .out)) (a .k) (a .start) (a .from) (a .left) (l .out) (l .p) (l .at) (l .i) (l .inv) (c .before .before .before .before .loop-test .taken)) (u .2 .ensures)))
-    (λ u. turned-at _ (now (a .s)) (l .out) _ _ _ _ (u .5) (u .6) (u .2 .ensures))
-    (c .before .if1 .came) in
-    rw (c .size-at .ensures .eq) (row-next (now (a .d)) (orderOf (a .o)) (now (a .s)) (now (a .out)) (a .k) (a .start) (a .from) (a .left) (l .out) (l .p) (l .at) (l .i) (l .inv) (c .before .before .before .before .loop-test .taken) _ _ done)
-
-turn-row-same-length : (t : ℕ) → turn-row-lts.Need-same-length (turn-row-calls t) (turn-row-at t) turn-row.Post turn-row-Inv-loop turn-row-μ-loop
-turn-row-same-length t c = c .before .loop .inv .rest .long
-
-turn-row-returns : (t : ℕ) → turn-row-lts.Need-returns (turn-row-calls t) (turn-row-at t) turn-row.Post turn-row-Inv-loop turn-row-μ-loop
-turn-row-returns t c =
-    let a = c .before .before .before .before .before .args in
-    let l = c .before .loop in
-    row-end (now (a .d)) (orderOf (a .o)) (now (a .s)) (now (a .out)) (a .k) (a .start) (a .from) (a .left) (l .out) (l .p) (l .at) (l .i) (l .inv) (c .loop-test .left)
+abbrev turn-rows-μ-loop2 : turn-rows-lts.MeasureT-loop2
+turn-rows-μ-loop2 d start k n s out₀ from o left at₀ i p₀ j₀ out at p j = k - j
 
 abbrev turn-rows-Inv-loop : turn-rows-lts.InvT-loop
 turn-rows-Inv-loop d start k n s out₀ from o left at₀ i₀ out at i = RepeatTurns (λ q. walkAll (orderOf o) (typesAt d k start) s q) s out₀ n from out at i
@@ -192,77 +101,108 @@ turn-rows-Inv-loop d start k n s out₀ from o left at₀ i₀ out at i = Repeat
 abbrev turn-rows-μ-loop : turn-rows-lts.MeasureT-loop
 turn-rows-μ-loop d start k n s out₀ from o left at₀ i₀ out at i = n - i
 
-turn-rows-loop-holds :
-    (t : ℕ) →
-    turn-rows-lts.Need-loop-holds
-    (turn-row-below t, turn-row.Post)
-    (turn-rows-at t)
-    turn-rows.Post
-    turn-rows-Inv-loop
-    turn-rows-μ-loop
-turn-rows-loop-holds t c = let a = c .before .before .before .args in repeat-begin (λ p. walkAll (orderOf (a .o)) (typesAt (now (a .d)) (a .k) (a .start)) (now (a .s)) p) (now (a .s)) (now (a .out)) (a .n) (a .from) (c .before .before .before .pre .1 .1)
+turn-rows-loop-holds : (t : ℕ) → turn-rows-lts.Need-loop-holds (turn-rows-calls t) (turn-rows-at t) turn-rows.Post turn-rows-Inv-loop2 turn-rows-μ-loop2 turn-rows-Inv-loop turn-rows-μ-loop
+turn-rows-loop-holds t c = let a = c .before .before .before .args in repeat-begin (λ q. walkAll (orderOf (a .o)) (typesAt (now (a .d)) (a .k) (a .start)) (now (a .s)) q) (now (a .s)) (now (a .out)) (a .n) (a .from) (c .before .before .before .pre .1 .1)
 
-turn-rows-turn-row-requires : (t : ℕ) → turn-rows-lts.Need-turn-row-requires (turn-rows-calls t) (turn-rows-at t) turn-rows.Post turn-rows-Inv-loop turn-rows-μ-loop
-turn-rows-turn-row-requires t c κs =
-    let a = c .before .before .before .before .before .before .args in
-    let l = c .before .before .loop in
-    (omega (arith, c .before .before .before .before .before .before .pre .0), (c .before .before .before .before .before .before .pre .1 .0, repeat-here (λ p. walkAll (orderOf (a .o)) (typesAt (now (a .d)) (a .k) (a .start)) (now (a .s)) p) (now (a .s)) (now (a .out)) (a .n) (a .from) (l .out) (l .at) (l .i) (l .inv) (c .before .loop-test .taken)))
+turn-rows-loop2-holds : (t : ℕ) → turn-rows-lts.Need-loop2-holds (turn-rows-calls t) (turn-rows-at t) turn-rows.Post turn-rows-Inv-loop2 turn-rows-μ-loop2 turn-rows-Inv-loop turn-rows-μ-loop
+turn-rows-loop2-holds t c =
+    let a = c .before .before .before .before .before .args in
+    let m = c .before .loop in
+    row-begin (now (a .d)) (orderOf (a .o)) (now (a .s)) (m .out) (a .k) (a .start) (m .at) (a .left) (c .before .before .before .before .before .pre .1 .0) (repeat-here (λ q. walkAll (orderOf (a .o)) (typesAt (now (a .d)) (a .k) (a .start)) (now (a .s)) q) (now (a .s)) (now (a .out)) (a .n) (a .from) (m .out) (m .at) (m .i) (m .inv) (c .loop-test .taken))
 
-turn-rows-add-i :
-    (t : ℕ) →
-    turn-rows-lts.Need-add-i
-    (turn-row-below t, turn-row.Post)
-    (turn-rows-at t)
-    turn-rows.Post
-    turn-rows-Inv-loop
-    turn-rows-μ-loop
-turn-rows-add-i t c = omega (arith, c .before .before .before .before .loop-test .taken)
+turn-rows-code-at-requires : (t : ℕ) → turn-rows-lts.Need-code-at-requires (turn-rows-calls t) (turn-rows-at t) turn-rows.Post turn-rows-Inv-loop2 turn-rows-μ-loop2 turn-rows-Inv-loop turn-rows-μ-loop
+turn-rows-code-at-requires t c κs =
+    let a = c .before .before .before .before .before .before .before .args in
+    let m = c .before .before .before .loop in
+    let l = c .before .loop2 in
+    let turn = row-here (now (a .d)) (orderOf (a .o)) (now (a .s)) (m .out) (a .k) (a .start) (m .at) (a .left) (l .out) (l .p) (l .at) (l .j) (l .inv) (c .loop2-test .taken) in
+    header-room (now (a .d)) (l .p) (turn .first .here)
 
-turn-rows-loop-less :
-    (t : ℕ) →
-    turn-rows-lts.Need-loop-less
-    (turn-row-below t, turn-row.Post)
-    (turn-rows-at t)
-    turn-rows.Post
-    turn-rows-Inv-loop
-    turn-rows-μ-loop
-turn-rows-loop-less t c = omega (arith, c .before .before .before .before .loop-test .taken)
+turn-rows-width-requires : (t : ℕ) → turn-rows-lts.Need-width-requires (turn-rows-calls t) (turn-rows-at t) turn-rows.Post turn-rows-Inv-loop2 turn-rows-μ-loop2 turn-rows-Inv-loop turn-rows-μ-loop
+turn-rows-width-requires t c κs = search needs
 
-turn-rows-loop-again :
-    (t : ℕ) →
-    turn-rows-lts.Need-loop-again
-    (turn-row-below t, turn-row.Post)
-    (turn-rows-at t)
-    turn-rows.Post
-    turn-rows-Inv-loop
-    turn-rows-μ-loop
+turn-rows-turn-scalar-requires : (t : ℕ) → turn-rows-lts.Need-turn-scalar-requires (turn-rows-calls t) (turn-rows-at t) turn-rows.Post turn-rows-Inv-loop2 turn-rows-μ-loop2 turn-rows-Inv-loop turn-rows-μ-loop
+turn-rows-turn-scalar-requires t c κs =
+    let a = c .before .before .before .before .before .before .before .before .before .before .before .args in
+    let m = c .before .before .before .before .before .before .before .loop in
+    let l = c .before .before .before .before .before .loop2 in
+    let turn = row-here (now (a .d)) (orderOf (a .o)) (now (a .s)) (m .out) (a .k) (a .start) (m .at) (a .left) (l .out) (l .p) (l .at) (l .j) (l .inv) (c .before .before .before .before .loop2-test .taken) in
+    ((c .before .before .width .ensures, omega (arith, c .before .if1 .taken)), scalar-room (now (a .d)) (l .p) (turn .first .here) _ _ (c .before .before .before .code-at .ensures) (c .before .before .width .ensures) (omega (arith, c .before .if1 .taken)) (orderOf (a .o)) (now (a .s)) (l .at) (l .out) (row-ready (now (a .d)) (orderOf (a .o)) (now (a .s)) (m .out) (a .k) (a .start) (m .at) (a .left) (l .out) (l .p) (l .at) (l .j) (l .inv) (c .before .before .before .before .loop2-test .taken)))
+
+turn-rows-add-at : (t : ℕ) → turn-rows-lts.Need-add-at (turn-rows-calls t) (turn-rows-at t) turn-rows.Post turn-rows-Inv-loop2 turn-rows-μ-loop2 turn-rows-Inv-loop turn-rows-μ-loop
+turn-rows-add-at t c =
+    let a = c .before .before .before .before .before .before .before .before .before .before .before .before .before .before .args in
+    let m = c .before .before .before .before .before .before .before .before .before .before .loop in
+    let l = c .before .before .before .before .before .before .before .before .loop2 in
+    let turn = row-here (now (a .d)) (orderOf (a .o)) (now (a .s)) (m .out) (a .k) (a .start) (m .at) (a .left) (l .out) (l .p) (l .at) (l .j) (l .inv) (c .before .before .before .before .before .before .before .loop2-test .taken) in
+    omega (arith, scalar-room (now (a .d)) (l .p) (turn .first .here) _ _ (c .before .before .before .before .before .before .code-at .ensures) (c .before .before .before .before .before .width .ensures) (omega (arith, c .before .before .before .before .if1 .taken)) (orderOf (a .o)) (now (a .s)) (l .at) (l .out) (row-ready (now (a .d)) (orderOf (a .o)) (now (a .s)) (m .out) (a .k) (a .start) (m .at) (a .left) (l .out) (l .p) (l .at) (l .j) (l .inv) (c .before .before .before .before .before .before .before .loop2-test .taken)) .inside)
+
+turn-rows-turn-value-requires : (t : ℕ) → turn-rows-lts.Need-turn-value-requires (turn-rows-calls t) (turn-rows-at t) turn-rows.Post turn-rows-Inv-loop2 turn-rows-μ-loop2 turn-rows-Inv-loop turn-rows-μ-loop
+turn-rows-turn-value-requires t c κs =
+    let a = c .before .before .before .before .before .before .before .before .before .before .before .args in
+    let m = c .before .before .before .before .before .before .before .loop in
+    let l = c .before .before .before .before .before .loop2 in
+    let turn = row-here (now (a .d)) (orderOf (a .o)) (now (a .s)) (m .out) (a .k) (a .start) (m .at) (a .left) (l .out) (l .p) (l .at) (l .j) (l .inv) (c .before .before .before .before .loop2-test .taken) in
+    let wide = c .before .before .width .ensures ∙ ap widthOf (c .before .before .before .code-at .ensures) in
+    (omega (arith, c .before .before .before .before .before .before .before .before .before .before .before .pre .0), (turn .first, (omega (arith, c .before .if1 .left, wide), (row-ready (now (a .d)) (orderOf (a .o)) (now (a .s)) (m .out) (a .k) (a .start) (m .at) (a .left) (l .out) (l .p) (l .at) (l .j) (l .inv) (c .before .before .before .before .loop2-test .taken)))))
+
+turn-rows-size-at-requires : (t : ℕ) → turn-rows-lts.Need-size-at-requires (turn-rows-calls t) (turn-rows-at t) turn-rows.Post turn-rows-Inv-loop2 turn-rows-μ-loop2 turn-rows-Inv-loop turn-rows-μ-loop
+turn-rows-size-at-requires t c κs =
+    let a = c .before .before .before .before .before .before .before .before .before .before .args in
+    let m = c .before .before .before .before .before .before .loop in
+    let l = c .before .before .before .before .loop2 in
+    let turn = row-here (now (a .d)) (orderOf (a .o)) (now (a .s)) (m .out) (a .k) (a .start) (m .at) (a .left) (l .out) (l .p) (l .at) (l .j) (l .inv) (c .before .before .before .loop2-test .taken) in
+    header-room (now (a .d)) (l .p) (turn .first .here)
+
+turn-rows-add-p : (t : ℕ) → turn-rows-lts.Need-add-p (turn-rows-calls t) (turn-rows-at t) turn-rows.Post turn-rows-Inv-loop2 turn-rows-μ-loop2 turn-rows-Inv-loop turn-rows-μ-loop
+turn-rows-add-p t c =
+    let a = c .before .before .before .before .before .before .before .before .before .before .before .args in
+    let m = c .before .before .before .before .before .before .before .loop in
+    let l = c .before .before .before .before .before .loop2 in
+    let turn = row-here (now (a .d)) (orderOf (a .o)) (now (a .s)) (m .out) (a .k) (a .start) (m .at) (a .left) (l .out) (l .p) (l .at) (l .j) (l .inv) (c .before .before .before .before .loop2-test .taken) in
+    omega (arith, c .size-at .ensures .eq, turn .within, turn .rest .small)
+
+turn-rows-add-j : (t : ℕ) → turn-rows-lts.Need-add-j (turn-rows-calls t) (turn-rows-at t) turn-rows.Post turn-rows-Inv-loop2 turn-rows-μ-loop2 turn-rows-Inv-loop turn-rows-μ-loop
+turn-rows-add-j t c = omega (arith, c .before .before .before .before .loop2-test .taken)
+
+turn-rows-loop2-less : (t : ℕ) → turn-rows-lts.Need-loop2-less (turn-rows-calls t) (turn-rows-at t) turn-rows.Post turn-rows-Inv-loop2 turn-rows-μ-loop2 turn-rows-Inv-loop turn-rows-μ-loop
+turn-rows-loop2-less t c = omega (arith, c .before .before .before .before .loop2-test .taken)
+
+turn-rows-loop2-again : (t : ℕ) → turn-rows-lts.Need-loop2-again (turn-rows-calls t) (turn-rows-at t) turn-rows.Post turn-rows-Inv-loop2 turn-rows-μ-loop2 turn-rows-Inv-loop turn-rows-μ-loop
+turn-rows-loop2-again t c =
+    let a = c .before .before .before .before .before .before .before .before .before .before .before .args in
+    let m = c .before .before .before .before .before .before .before .loop in
+    let l = c .before .before .before .before .before .loop2 in
+    let turn = row-here (now (a .d)) (orderOf (a .o)) (now (a .s)) (m .out) (a .k) (a .start) (m .at) (a .left) (l .out) (l .p) (l .at) (l .j) (l .inv) (c .before .before .before .before .loop2-test .taken) in
+    let done : Turned (walk (orderOf (a .o)) (typeAt (now (a .d)) (l .p)) (now (a .s)) (l .at)) (now (a .s)) (l .out) (c .before .if1 .out) (c .before .if1 .at) =
+    ⊎-elim
+    (λ u. turned-at _ (now (a .s)) (l .out) _ _ _ _ (u .5) (u .6)
+    (scalar-done (now (a .d)) (l .p) (turn .first .here) _ _ (c .before .before .before .code-at .ensures) (c .before .before .width .ensures) (omega (arith, u .0 .taken)) (orderOf (a .o)) (now (a .s)) (l .at) (l .out) _ (row-ready (now (a .d)) (orderOf (a .o)) (now (a .s)) (m .out) (a .k) (a .start) (m .at) (a .left) (l .out) (l .p) (l .at) (l .j) (l .inv) (c .before .before .before .before .loop2-test .taken)) (u .2 .ensures)))
+    (λ u. turned-at _ (now (a .s)) (l .out) _ _ _ _ (u .5) (u .6) (u .2 .ensures))
+    (c .before .if1 .came) in
+    rw (c .size-at .ensures .eq) (row-next (now (a .d)) (orderOf (a .o)) (now (a .s)) (m .out) (a .k) (a .start) (m .at) (a .left) (l .out) (l .p) (l .at) (l .j) (l .inv) (c .before .before .before .before .loop2-test .taken) _ _ done)
+
+turn-rows-add-i : (t : ℕ) → turn-rows-lts.Need-add-i (turn-rows-calls t) (turn-rows-at t) turn-rows.Post turn-rows-Inv-loop2 turn-rows-μ-loop2 turn-rows-Inv-loop turn-rows-μ-loop
+turn-rows-add-i t c = omega (arith, c .before .before .loop-test .taken)
+
+turn-rows-loop-less : (t : ℕ) → turn-rows-lts.Need-loop-less (turn-rows-calls t) (turn-rows-at t) turn-rows.Post turn-rows-Inv-loop2 turn-rows-μ-loop2 turn-rows-Inv-loop turn-rows-μ-loop
+turn-rows-loop-less t c = omega (arith, c .before .before .loop-test .taken)
+
+turn-rows-loop-again : (t : ℕ) → turn-rows-lts.Need-loop-again (turn-rows-calls t) (turn-rows-at t) turn-rows.Post turn-rows-Inv-loop2 turn-rows-μ-loop2 turn-rows-Inv-loop turn-rows-μ-loop
 turn-rows-loop-again t c =
-    let a = c .before .before .before .before .before .before .before .before .before .args in
-    let l = c .before .before .before .before .before .loop in
-    repeat-next (λ p. walkAll (orderOf (a .o)) (typesAt (now (a .d)) (a .k) (a .start)) (now (a .s)) p) (now (a .s)) (now (a .out)) (a .n) (a .from) (l .out) (l .at) (l .i) (l .inv) (c .before .before .before .before .loop-test .taken) _ _ (c .before .before .turn-row .ensures)
+    let a = c .before .before .before .before .before .before .before .args in
+    let m = c .before .before .before .loop in
+    let l = c .before .loop2 in
+    repeat-next (λ q. walkAll (orderOf (a .o)) (typesAt (now (a .d)) (a .k) (a .start)) (now (a .s)) q) (now (a .s)) (now (a .out)) (a .n) (a .from) (m .out) (m .at) (m .i) (m .inv) (c .before .before .loop-test .taken) _ _ (row-end (now (a .d)) (orderOf (a .o)) (now (a .s)) (m .out) (a .k) (a .start) (m .at) (a .left) (l .out) (l .p) (l .at) (l .j) (l .inv) (c .loop2-test .left))
 
-turn-rows-same-length :
-    (t : ℕ) →
-    turn-rows-lts.Need-same-length
-    (turn-row-below t, turn-row.Post)
-    (turn-rows-at t)
-    turn-rows.Post
-    turn-rows-Inv-loop
-    turn-rows-μ-loop
+turn-rows-same-length : (t : ℕ) → turn-rows-lts.Need-same-length (turn-rows-calls t) (turn-rows-at t) turn-rows.Post turn-rows-Inv-loop2 turn-rows-μ-loop2 turn-rows-Inv-loop turn-rows-μ-loop
 turn-rows-same-length t c = c .before .loop .inv .left .long
 
-turn-rows-returns :
-    (t : ℕ) →
-    turn-rows-lts.Need-returns
-    (turn-row-below t, turn-row.Post)
-    (turn-rows-at t)
-    turn-rows.Post
-    turn-rows-Inv-loop
-    turn-rows-μ-loop
+turn-rows-returns : (t : ℕ) → turn-rows-lts.Need-returns (turn-rows-calls t) (turn-rows-at t) turn-rows.Post turn-rows-Inv-loop2 turn-rows-μ-loop2 turn-rows-Inv-loop turn-rows-μ-loop
 turn-rows-returns t c =
     let a = c .before .before .before .before .before .args in
-    let l = c .before .loop in
-    repeat-end (λ p. walkAll (orderOf (a .o)) (typesAt (now (a .d)) (a .k) (a .start)) (now (a .s)) p) (now (a .s)) (now (a .out)) (a .n) (a .from) (l .out) (l .at) (l .i) (l .inv) (c .loop-test .left)
+    let m = c .before .loop in
+    repeat-end (λ q. walkAll (orderOf (a .o)) (typesAt (now (a .d)) (a .k) (a .start)) (now (a .s)) q) (now (a .s)) (now (a .out)) (a .n) (a .from) (m .out) (m .at) (m .i) (m .inv) (c .loop-test .left)
 
 turn-value-code-at-requires : (t : ℕ) → turn-value-lts.Need-code-at-requires (turn-value-calls t) (turn-value-at t) turn-value.Post
 turn-value-code-at-requires t c κs = let a = c .before .before .before .args in header-room (now (a .d)) (a .p) (c .before .before .before .pre .1 .0 .here)
@@ -273,12 +213,12 @@ turn-value-kind-of-requires t c κs = search needs
 turn-value-enum-told : (t : ℕ) → turn-value-lts.Need-enum-told (turn-value-calls t) (turn-value-at t) turn-value.Post
 turn-value-enum-told t c = search needs
 
-turn-value-turn-texts-requires : (t : ℕ) → turn-value-lts.Need-turn-texts-requires (turn-value-calls t) (turn-value-at t) turn-value.Post
+turn-value-turn-text-requires : (t : ℕ) → turn-value-lts.Need-turn-text-requires (turn-value-calls t) (turn-value-at t) turn-value.Post
 unfolding kindNamed
-turn-value-turn-texts-requires t c κs =
+turn-value-turn-text-requires t c κs =
     let a = c .before .before .before .before .before .before .before .before .args in
     let kind = known _ kinds.Text (kindOf (c .before .before .before .before .code-at .result)) (c .before .before .before .kind-of .ensures) (c .before .enum-told .given .1) ∙ ap kindOf (c .before .before .before .before .code-at .ensures) in
-    turnable-as _ _ (now (a .s)) (now (a .out)) (a .at) (value-text (now (a .d)) (a .p) (c .before .before .before .before .before .before .before .before .pre .1 .0 .here) (orderOf (a .o)) (now (a .s)) (a .at) kind ∙ sym (repeat-one (λ p. textAt (orderOf (a .o)) (now (a .s)) p) (a .at))) (c .before .before .before .before .before .before .before .before .pre .1 .1 .1)
+    turnable-as _ _ (now (a .s)) (now (a .out)) (a .at) (value-text (now (a .d)) (a .p) (c .before .before .before .before .before .before .before .before .pre .1 .0 .here) (orderOf (a .o)) (now (a .s)) (a .at) kind) (c .before .before .before .before .before .before .before .before .pre .1 .1 .1)
 
 turn-value-same-length : (t : ℕ) → turn-value-lts.Need-same-length (turn-value-calls t) (turn-value-at t) turn-value.Post
 turn-value-same-length t c = search needs
@@ -288,7 +228,7 @@ unfolding kindNamed
 turn-value-returns t c =
     let a = c .before .before .before .before .before .before .before .before .before .before .before .args in
     let kind = known _ kinds.Text (kindOf (c .before .before .before .before .before .before .before .code-at .result)) (c .before .before .before .before .before .before .kind-of .ensures) (c .before .before .before .before .enum-told .given .1) ∙ ap kindOf (c .before .before .before .before .before .before .before .code-at .ensures) in
-    turned-as _ _ (now (a .s)) (now (a .out)) _ _ (repeat-one (λ p. textAt (orderOf (a .o)) (now (a .s)) p) (a .at) ∙ sym (value-text (now (a .d)) (a .p) (c .before .before .before .before .before .before .before .before .before .before .before .pre .1 .0 .here) (orderOf (a .o)) (now (a .s)) (a .at) kind)) (c .before .before .turn-texts .ensures)
+    turned-as _ _ (now (a .s)) (now (a .out)) _ _ (sym (value-text (now (a .d)) (a .p) (c .before .before .before .before .before .before .before .before .before .before .before .pre .1 .0 .here) (orderOf (a .o)) (now (a .s)) (a .at) kind)) (c .before .before .turn-text .ensures)
 
 turn-value-inside-of-requires : (t : ℕ) → turn-value-lts.Need-inside-of-requires (turn-value-calls t) (turn-value-at t) turn-value.Post
 turn-value-inside-of-requires t c κs = c .before .before .before .before .before .before .pre .1 .0 .here
@@ -356,18 +296,18 @@ turn-value-returns-2 t c =
     turned-as _ _ (now (a .s)) (now (a .out)) _ _ (sym (parts .walked (orderOf (a .o)) (now (a .s)) (a .at)))
     (remains-last _ (now (a .s)) (now (a .out)) _ (a .at + 4 * i .count) _ _ _ rest (c .before .before .turn-values .ensures))
 
-turn-value-sub-turn-row : (t : ℕ) → turn-value-lts.Need-sub-turn-row (turn-value-calls t) (turn-value-at t) turn-value.Post
-turn-value-sub-turn-row t c = let a = c .before .before .before .before .before .before .before .before .before .args in type-deep (now (a .d)) (a .p) (a .left) (c .before .before .before .before .before .before .before .before .before .pre .1 .0)
+turn-value-sub-turn-rows : (t : ℕ) → turn-value-lts.Need-sub-turn-rows (turn-value-calls t) (turn-value-at t) turn-value.Post
+turn-value-sub-turn-rows t c = let a = c .before .before .before .before .before .before .before .before .before .args in type-deep (now (a .d)) (a .p) (a .left) (c .before .before .before .before .before .before .before .before .before .pre .1 .0)
 
-turn-value-turn-row-requires : (t : ℕ) → turn-value-lts.Need-turn-row-requires (turn-value-calls t) (turn-value-at t) turn-value.Post
+turn-value-turn-rows-requires : (t : ℕ) → turn-value-lts.Need-turn-rows-requires (turn-value-calls t) (turn-value-at t) turn-value.Post
 unfolding kindIs hasInside
-turn-value-turn-row-requires t c κs =
+turn-value-turn-rows-requires t c κs =
     let a = c .before .before .before .before .before .before .before .before .before .args in
     let no-text = not-kind string (0 ∷ 1 ∷ 2 ∷ 4 ∷ 5 ∷ 6 ∷ []) tt _ _ _ (c .before .before .before .before .kind-of .ensures) (c .before .before .before .before .before .code-at .ensures) (c .before .before .before .match .keys2) in
     let no-array = not-kind array (0 ∷ 1 ∷ 2 ∷ 3 ∷ 5 ∷ 6 ∷ []) tt _ _ _ (c .before .before .before .before .kind-of .ensures) (c .before .before .before .before .before .code-at .ensures) (c .before .match2 .keys2) in
     let kind = is-cluster (now (a .d)) (a .p) (c .before .before .before .before .before .before .before .before .before .pre .1 .0 .here) (c .before .before .before .before .before .before .before .before .before .pre .1 .1 .0) no-text no-array in
     let same = value-cluster (now (a .d)) (a .p) (c .before .before .before .before .before .before .before .before .before .pre .1 .0 .here) (orderOf (a .o)) (now (a .s)) (a .at) _ (c .before .before .inside-of .ensures) kind in
-    (omega (arith, type-deep (now (a .d)) (a .p) (a .left) (c .before .before .before .before .before .before .before .before .before .pre .1 .0), c .before .before .before .before .before .before .before .before .before .pre .0), (row-inside (now (a .d)) (a .p) (a .left) (c .before .before .before .before .before .before .before .before .before .pre .1 .0) _ (c .before .before .inside-of .ensures) (sym (ap hasInside kind)), turnable-as _ _ (now (a .s)) (now (a .out)) (a .at) same (c .before .before .before .before .before .before .before .before .before .pre .1 .1 .1)))
+    (omega (arith, type-deep (now (a .d)) (a .p) (a .left) (c .before .before .before .before .before .before .before .before .before .pre .1 .0), c .before .before .before .before .before .before .before .before .before .pre .0), (row-inside (now (a .d)) (a .p) (a .left) (c .before .before .before .before .before .before .before .before .before .pre .1 .0) _ (c .before .before .inside-of .ensures) (sym (ap hasInside kind)), turnable-as _ _ (now (a .s)) (now (a .out)) (a .at) (same ∙ sym (repeat-one _ (a .at))) (c .before .before .before .before .before .before .before .before .before .pre .1 .1 .1)))
 
 turn-value-same-length-3 : (t : ℕ) → turn-value-lts.Need-same-length-3 (turn-value-calls t) (turn-value-at t) turn-value.Post
 turn-value-same-length-3 t c = search needs
@@ -380,7 +320,7 @@ turn-value-returns-3 t c =
     let no-array = not-kind array (0 ∷ 1 ∷ 2 ∷ 3 ∷ 5 ∷ 6 ∷ []) tt _ _ _ (c .before .before .before .before .before .before .before .kind-of .ensures) (c .before .before .before .before .before .before .before .before .code-at .ensures) (c .before .before .before .before .match2 .keys2) in
     let kind = is-cluster (now (a .d)) (a .p) (c .before .before .before .before .before .before .before .before .before .before .before .before .pre .1 .0 .here) (c .before .before .before .before .before .before .before .before .before .before .before .before .pre .1 .1 .0) no-text no-array in
     let same = value-cluster (now (a .d)) (a .p) (c .before .before .before .before .before .before .before .before .before .before .before .before .pre .1 .0 .here) (orderOf (a .o)) (now (a .s)) (a .at) _ (c .before .before .before .before .before .inside-of .ensures) kind in
-    turned-as _ _ (now (a .s)) (now (a .out)) _ _ (sym same) (c .before .before .turn-row .ensures)
+    turned-as _ _ (now (a .s)) (now (a .out)) _ _ (repeat-one _ (a .at) ∙ sym same) (c .before .before .turn-rows .ensures)
 
 turn-values-code-at-requires : (t : ℕ) → turn-values-lts.Need-code-at-requires (turn-values-calls t) (turn-values-at t) turn-values.Post
 turn-values-code-at-requires t c κs = let a = c .before .before .before .args in header-room (now (a .d)) (a .p) (c .before .before .before .pre .1 .0 .here)
@@ -473,34 +413,27 @@ turn-values-returns-4 t c =
     let a = c .before .before .before .before .before .before .before .before .before .before .before .before .before .args in
     turned-as _ _ (now (a .s)) (now (a .out)) _ _ (walk-alone (now (a .d)) (a .p) (a .left) (c .before .before .before .before .before .before .before .before .before .before .before .before .before .pre .1 .0) (orderOf (a .o)) (now (a .s)) (a .n) (a .from)) (c .before .before .turn-rows2 .ensures)
 
-pub +turn-row+turn-rows+turn-value+turn-values-spec : {M : Type 1} → statement M
-+turn-row+turn-rows+turn-value+turn-values-spec =
-    close μ-turn-row μ-turn-rows μ-turn-value μ-turn-values (λ t. turn-row-lts.spec (turn-row-calls t)
-    (turn-row-at t)
-    turn-row.Post
-    turn-row-Inv-loop
-    turn-row-μ-loop
-    (turn-row-loop-holds t)
-    (turn-row-code-at-requires t)
-    (turn-row-width-requires t)
-    (turn-row-turn-scalars-requires t)
-    (turn-row-add-at t)
-    (turn-row-turn-value-requires t)
-    (turn-row-size-at-requires t)
-    (turn-row-add-p t)
-    (turn-row-add-i t)
-    (turn-row-loop-less t)
-    (turn-row-loop-again t)
-    (turn-row-same-length t)
-    (turn-row-returns t))
-    (λ t. turn-rows-lts.spec
-    (turn-row-below t, turn-row.Post)
+pub +turn-rows+turn-value+turn-values-spec : {M : Type 1} → statement M
++turn-rows+turn-value+turn-values-spec =
+    close μ-turn-rows μ-turn-value μ-turn-values (λ t. turn-rows-lts.spec (turn-rows-calls t)
     (turn-rows-at t)
     turn-rows.Post
+    turn-rows-Inv-loop2
+    turn-rows-μ-loop2
     turn-rows-Inv-loop
     turn-rows-μ-loop
     (turn-rows-loop-holds t)
-    (turn-rows-turn-row-requires t)
+    (turn-rows-loop2-holds t)
+    (turn-rows-code-at-requires t)
+    (turn-rows-width-requires t)
+    (turn-rows-turn-scalar-requires t)
+    (turn-rows-add-at t)
+    (turn-rows-turn-value-requires t)
+    (turn-rows-size-at-requires t)
+    (turn-rows-add-p t)
+    (turn-rows-add-j t)
+    (turn-rows-loop2-less t)
+    (turn-rows-loop2-again t)
     (turn-rows-add-i t)
     (turn-rows-loop-less t)
     (turn-rows-loop-again t)
@@ -512,7 +445,7 @@ pub +turn-row+turn-rows+turn-value+turn-values-spec : {M : Type 1} → statement
     (turn-value-code-at-requires t)
     (turn-value-kind-of-requires t)
     (turn-value-enum-told t)
-    (turn-value-turn-texts-requires t)
+    (turn-value-turn-text-requires t)
     (turn-value-same-length t)
     (turn-value-returns t)
     (turn-value-inside-of-requires t)
@@ -524,8 +457,8 @@ pub +turn-row+turn-rows+turn-value+turn-values-spec : {M : Type 1} → statement
     (turn-value-turn-values-requires t)
     (turn-value-same-length-2 t)
     (turn-value-returns-2 t)
-    (turn-value-sub-turn-row t)
-    (turn-value-turn-row-requires t)
+    (turn-value-sub-turn-rows t)
+    (turn-value-turn-rows-requires t)
     (turn-value-same-length-3 t)
     (turn-value-returns-3 t))
     λ t. turn-values-lts.spec (turn-values-calls t)
