@@ -103,7 +103,7 @@ above-range low high c h = go (leb low c) (lt-leb c high h)
     go false e = refl
 
 -- a code within bounds
-inside : (low high c : ℕ) → between low high c ≡ true → (low ≤ c) × (c ≤ high)
+pub inside : (low high c : ℕ) → between low high c ≡ true → (low ≤ c) × (c ≤ high)
 inside low high c e = let parts = and-true (leb low c) (leb c high) e in (leb-true _ _ (parts .0), leb-true _ _ (parts .1))
 
 -- a number of more than eight bytes is none that is read

@@ -26,7 +26,7 @@ chain-order done = omega arith
 chain-order (link e h c) = omega (arith, chain-order c)
 
 -- one chain after another
-chain-append : {a b c : ℕ} {ts us : List Token} → Chain a ts b → Chain b us c → Chain a (ts ++ us) c
+pub chain-append : {a b c : ℕ} {ts us : List Token} → Chain a ts b → Chain b us c → Chain a (ts ++ us) c
 chain-append done d = d
 chain-append (link e h c) d = link e h (chain-append c d)
 

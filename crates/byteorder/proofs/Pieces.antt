@@ -17,7 +17,8 @@ use Rattle.descriptor.proofs.Steps.{impossible}
 use Rattle.flattened.specs.Order.{Order, numberAt}
 use Rattle.flattened.specs.Token.{Token, scalar, string}
 use Rattle.flattened.specs.Walk.{token, single, scalarAt, textAt, repeat}
-use Rattle.byteorder.specs.inner.Turning.{turnedAt, turnedRun, turnedTokens, tokensOf, numberWidth, numberCount, Turnable, Turned}
+use Rattle.byteorder.specs.inner.Turning.{turnedAt, turnedRun, turnedTokens, tokensOf, Turnable, Turned}
+use Rattle.byteorder.specs.Reversal.{numberCount, numberWidth}
 use Rattle.byteorder.proofs.Tokens.{run-split, scalar-token, string-token}
 use Rattle.byteorder.proofs.Widths.{numbers-all}
 use Rattle.byteorder.proofs.Remaining.{remains-all, first-turnable, remains-next, remains-last}

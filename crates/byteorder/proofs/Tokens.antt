@@ -1,21 +1,19 @@
 -- The numbers of a token, turned one by one in place, are the token reversed as it is defined; and tokens one after another. Over the
 -- width. Rests on the laws of lists and on the widths of numbers.
 use mathlib.Core.Path.{_≡_, refl, sym, ap, ap₂, _∙_}
-use mathlib.Core.Bool.{Bool, true, false, cond}
 use mathlib.Core.List.{List, [], _∷_, _++_, reverse}
-use Prim.Native.Nat.{ℕ, zero, suc, _+_, _*_, _/_, _≤_}
+use Prim.Native.Nat.{ℕ, zero, suc, _+_, _*_, _≤_}
 use native.Mathlib.Nat.{zero-add, suc-add, suc-mul}
 use native.Mathlib.Numerals.{add-one}
 use native.Mathlib.Omega.{arith}
 use lib.ListN.{length, getD, take, drop, length-take, length-drop, length-reverse}
 use lib.Seq.{sets, slice, length-sets, take-nil, drop-nil, take-take, drop-drop, drop-cons}
-use Rattle.descriptor.specs.Codes.{isComplex}
 use Rattle.descriptor.specs.Width.{widthOf}
 use Rattle.flattened.specs.Token.{Token, scalar, string, sizes}
 use Rattle.flattened.specs.Walk.{token}
 use Rattle.number.proofs.Writing.{sets-append}
-use Rattle.byteorder.specs.Reversal.{reverseEach, reverseToken}
-use Rattle.byteorder.specs.inner.Turning.{turnedAt, turnedRun, turnedTokens, numberWidth, numberCount}
+use Rattle.byteorder.specs.Reversal.{reverseEach, reverseToken, numberCount, numberWidth}
+use Rattle.byteorder.specs.inner.Turning.{turnedAt, turnedRun, turnedTokens}
 use Rattle.byteorder.proofs.Widths.{numbers-all}
 
 -- m elements from `at` on
@@ -83,15 +81,8 @@ module _ (s : List ℕ) where
   -- a scalar
   pub scalar-token : (c at : ℕ) (out : List ℕ) → at + widthOf c ≤ length s
       → turnedTokens s (token (scalar c) at (at + widthOf c) ∷ []) out ≡ turnedRun (numberWidth c) s (numberCount c) at out
-  unfolding turnedTokens reverseToken numberWidth numberCount
-  scalar-token c at out h =
-      ap (sets out at) (numbers (isComplex c) (slice at (at + widthOf c) s))
-      ∙ whole-run (numberWidth c) (numberCount c) (widthOf c) at out (numbers-all c) h
-    where
-      numbers : (b : Bool) (x : List ℕ) → cond b (reverseEach (widthOf c / 2) 2 x) (reverseEach (widthOf c) 1 x)
-          ≡ reverseEach (cond b (widthOf c / 2) (widthOf c)) (cond b 2 1) x
-      numbers true x = refl
-      numbers false x = refl
+  unfolding turnedTokens reverseToken
+  scalar-token c at out h = whole-run (numberWidth c) (numberCount c) (widthOf c) at out (numbers-all c) h
 
   -- size words
   pub sizes-token : (k at : ℕ) (out : List ℕ) → at + 4 * k ≤ length s

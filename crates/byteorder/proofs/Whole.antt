@@ -1,17 +1,14 @@
 -- The tokens of a chain, each turned in its place, are the chain's reversed bytes in one piece; a token's reversed bytes are as many as its
 -- bytes. Rests on the definition of the reversed data.
 use mathlib.Core.Path.{_≡_, refl, sym, ap, ap₂, _∙_}
-use mathlib.Core.Bool.{Bool, true, false, cond}
 use mathlib.Core.List.{List, _++_, reverse}
-use Prim.Native.Nat.{ℕ, zero, suc, _+_, _-_, _/_, _<_, _≤_}
+use Prim.Native.Nat.{ℕ, zero, suc, _+_, _-_, _<_, _≤_}
 use native.Mathlib.Omega.{arith}
 use lib.ListN.{length, take, drop, length-append, length-reverse, length-take, length-drop}
 use lib.Seq.{sets, sets-eq, length-slice}
-use Rattle.descriptor.specs.Codes.{isComplex}
-use Rattle.descriptor.specs.Width.{widthOf}
 use Rattle.flattened.specs.Token.{TokenKind, scalar, string, sizes, Token, tokenBytes, Chain, done, link}
 use Rattle.number.proofs.Writing.{sets-append}
-use Rattle.byteorder.specs.Reversal.{reverseEach, reverseToken, reversed}
+use Rattle.byteorder.specs.Reversal.{reverseEach, numberCount, numberWidth, reverseToken, reversed}
 use Rattle.byteorder.specs.inner.Turning.{turnedTokens}
 use Rattle.byteorder.proofs.Chained.{chain-order}
 
@@ -26,11 +23,7 @@ each-length w (suc k) x =
 
 token-length : (k : TokenKind) (x : List ℕ) → length (reverseToken k x) ≡ length x
 unfolding reverseToken
-token-length (scalar c) x = go (isComplex c)
-  where
-    go : (b : Bool) → length (cond b (reverseEach (widthOf c / 2) 2 x) (reverseEach (widthOf c) 1 x)) ≡ length x
-    go true = each-length (widthOf c / 2) 2 x
-    go false = each-length (widthOf c) 1 x
+token-length (scalar c) x = each-length (numberWidth c) (numberCount c) x
 token-length string x = each-length 4 1 x
 token-length (sizes k) x = each-length 4 k x
 

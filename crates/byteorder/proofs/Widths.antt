@@ -13,7 +13,8 @@ use Rattle.descriptor.specs.Codes.{isComplex}
 use Rattle.descriptor.specs.Width.{widthOf}
 use Rattle.descriptor.proofs.Sizes.{and-true}
 use Rattle.descriptor.proofs.Widths.{passes, each, none-past}
-use Rattle.byteorder.specs.inner.Turning.{turnedAt, turnedRun, numberWidth, numberCount, NumberWide}
+use Rattle.byteorder.specs.inner.Turning.{turnedAt, turnedRun, NumberWide}
+use Rattle.byteorder.specs.Reversal.{numberCount, numberWidth}
 
 -- a number's width is one of five
 oneOf : ℕ → Bool

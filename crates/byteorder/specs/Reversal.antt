@@ -18,8 +18,16 @@ unfoldable pub reverseEach : ℕ → ℕ → List ℕ → List ℕ
 reverseEach w zero x = x
 reverseEach w (suc k) x = reverse (take w x) ++ reverseEach w k (drop w x)
 
+-- a scalar of the code c is one number, or the two halves of a complex number
+unfoldable pub numberCount : ℕ → ℕ
+numberCount c = cond (isComplex c) 2 1
+
+-- the bytes of each
+unfoldable pub numberWidth : ℕ → ℕ
+numberWidth c = cond (isComplex c) (widthOf c / 2) (widthOf c)
+
 unfoldable pub reverseToken : TokenKind → List ℕ → List ℕ
-reverseToken (scalar c) x = cond (isComplex c) (reverseEach (widthOf c / 2) 2 x) (reverseEach (widthOf c) 1 x)
+reverseToken (scalar c) x = reverseEach (numberWidth c) (numberCount c) x
 reverseToken string x = reverseEach 4 1 x
 reverseToken (sizes k) x = reverseEach 4 k x
 

@@ -5,7 +5,8 @@ ghost use mathlib.Core.Path.{_≡_};
 ghost use Prim.Native.Nat.{_+_, _*_, _<_};
 ghost use Rattle.descriptor.specs.Codes.{isComplex};
 ghost use Rattle.descriptor.specs.Width.{widthOf};
-ghost use Rattle.byteorder.specs.inner.Turning.{turnedRun, numberWidth, numberCount, Room};
+ghost use Rattle.byteorder.specs.inner.Turning.{turnedRun, Room};
+ghost use Rattle.byteorder.specs.Reversal.{numberCount, numberWidth};
 
 const FIRST_COMPLEX: u8 = 0x0C;
 

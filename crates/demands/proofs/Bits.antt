@@ -33,7 +33,6 @@ use Rattle.descriptor.specs.Outcome.{Outcome, refused, read, andThen, judge}
 use Rattle.descriptor.specs.Answers.{accepted}
 use Rattle.descriptor.specs.declared.answer.Answer.{Answer}
 use Rattle.descriptor.proofs.CodeKinds.{kindNumber, allAre, among}
-use Rattle.descriptor.proofs.Sizes.{and-true}
 use Rattle.descriptor.proofs.Steps.{impossible}
 use Rattle.descriptor.proofs.Outcomes.{Holds, nothing, found, holds-read, holds-require, holds-andThen, holds-self}
 use Rattle.encoding.proofs.Slices.{bytes-at}
@@ -47,8 +46,8 @@ use Rattle.access.specs.Values.{ofSingle, ofDouble, complement, valueKind, valu
 use Rattle.access.specs.declared.part.Part.{Part}
 use Rattle.access.specs.declared.value.Value.{Value}
 use Rattle.access.specs.declared.value.Reading.{Reading}
-use Rattle.access.proofs.Values.{single-width, signed-narrow, value-signed, value-unsigned, value-enumeration, value-single, value-double, value-flag}
-use Rattle.values.proofs.Refusals.{refused-number}
+use Rattle.access.proofs.Values.{inside, single-width, signed-narrow, value-signed, value-unsigned, value-enumeration, value-single, value-double, value-flag}
+use Rattle.flattened.proofs.Refusals.{refused-number}
 use Rattle.demands.proofs.Accepted.{Described, described-read}
 use Rattle.demands.proofs.Data.{UsesAll, uses-exactly, walked-answer, all-walked}
 use Rattle.demands.proofs.Parts.{Lies, Meets, lost, met, partFrom, top, located-part, top-meets}
@@ -62,9 +61,6 @@ pub data Number (c : ℕ) : Type 0 where
   double : (c ≡ 10) ⊎ (c ≡ 26) → Number c
   flag : c ≡ 33 → Number c
 
-pub bounds : (low high c : ℕ) → between low high c ≡ true → (low ≤ c) × (c ≤ high)
-bounds low high c e = let parts = and-true (leb low c) (leb c high) e in (leb-true _ _ (parts .0), leb-true _ _ (parts .1))
-
 -- by either way that a test comes out
 pub either : {A : Type 0} (b : Bool) → (b ≡ true → A) → (b ≡ false → A) → A
 either true f g = f refl
@@ -74,9 +70,9 @@ either false f g = g refl
 number : (c v : ℕ) → isValue (valueOf c v) ≡ true → Number c
 unfolding valueOf isValue
 number c v e =
-    either (between 1 4 c) (λ h. let l = bounds 1 4 c h in integer (l .0) (l .1)) (λ a1.
-    either (between 5 8 c) (λ h. let l = bounds 5 8 c h in natural (l .0) (l .1)) (λ a2.
-    either (between 21 23 c) (λ h. let l = bounds 21 23 c h in item (l .0) (l .1)) (λ a3.
+    either (between 1 4 c) (λ h. let l = inside 1 4 c h in integer (l .0) (l .1)) (λ a1.
+    either (between 5 8 c) (λ h. let l = inside 5 8 c h in natural (l .0) (l .1)) (λ a2.
+    either (between 21 23 c) (λ h. let l = inside 21 23 c h in item (l .0) (l .1)) (λ a3.
     either (eqb c 9) (λ h. single (_⊎_.inl (eqb-true c 9 h))) (λ a4.
     either (eqb c 25) (λ h. single (_⊎_.inr (eqb-true c 25 h))) (λ a5.
     either (eqb c 10) (λ h. double (_⊎_.inl (eqb-true c 10 h))) (λ a6.
@@ -194,7 +190,7 @@ module _ (d : List ℕ) (x : Described d) (s : List ℕ) where
   unfolding readValue
   read-accepted p (refused number place) e none =
       let same : readValue d s p .answer .number ≡ number = rw (described-read d x, e) refl in
-      absurd (omega (arith, refused-number big (x .tree) s number place e))
+      absurd (omega (arith, refused-number s big (x .tree) number place e))
   read-accepted p (read q ts) e none = ap (λ (r : Answer). r .number) (walked-answer d x s q ts e)
 
   module _ (within : length s ≤ dataLimit) (all : UsesAll (x .tree) s) (p : List ℕ) where

@@ -23,7 +23,7 @@ use Rattle.values.specs.Value.{Data}
 use Rattle.values.proofs.Accepted.{one-value}
 use Rattle.values.proofs.Answers.{answer-exactly}
 use Rattle.values.proofs.Chained.{accepted-chain, accepted-whole}
-use Rattle.values.proofs.Refusals.{refused-number}
+use Rattle.flattened.proofs.Refusals.{refused-number}
 use Rattle.demands.proofs.Accepted.{Described, described-read}
 
 -- the walk of the type t goes through all of the data s
@@ -61,7 +61,7 @@ module _ (d : List ℕ) (x : Described d) (s : List ℕ) where
       → (ts : List Token) × (walked big (x .tree) s ≡ read (length s) ts)
   walked-zero (refused number place) e zero =
       let same : dataCheck d s .number ≡ number = ap (λ (r : Answer). r .number) (refused-answer number place e) in
-      absurd (omega (arith, refused-number big (x .tree) s number place e))
+      absurd (omega (arith, refused-number s big (x .tree) number place e))
   walked-zero (read q ts) e zero = (ts, e ∙ ap (λ (k : ℕ). read k ts) (holds-read e (walked-all (x .tree) s) .1 .0))
 
   -- "Data is accepted exactly when it keeps 01's limit and its type's walk uses every byte."

@@ -21,7 +21,7 @@ use Rattle.flattened.specs.Walk.{sizesAt, sizesFit, arrayAt, follow, repeat, wa
 use Rattle.flattened.specs.Answers.{dataCheck}
 use Rattle.access.specs.Path.{Spot, memberAt, stepAt, stepInto, spotAt, noPart, partOf, located}
 use Rattle.access.specs.declared.part.Part.{Part}
-use Rattle.values.proofs.Refusals.{refused-number}
+use Rattle.flattened.proofs.Refusals.{refused-number}
 use Rattle.demands.proofs.Accepted.{Described, described-read}
 use Rattle.demands.proofs.Data.{UsesAll, uses-exactly, walked-answer, all-walked}
 use Rattle.demands.proofs.Pieces.{Goes, goes-walk, goes-walkAll, goes-repeat}
@@ -267,7 +267,7 @@ module _ (d : List ℕ) (x : Described d) (s : List ℕ) where
   unfolding located
   located-accepted p (refused number place) e none =
       let same : located d s p .answer .number ≡ number = rw (described-read d x, e) refl in
-      absurd (omega (arith, refused-number big (x .tree) s number place e))
+      absurd (omega (arith, refused-number s big (x .tree) number place e))
   located-accepted p (read q ts) e none = ap (λ (r : Answer). r .number) (walked-answer d x s q ts e)
 
   module _ (within : length s ≤ dataLimit) (all : UsesAll (x .tree) s) where

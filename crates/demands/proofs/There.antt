@@ -30,8 +30,9 @@ use Rattle.access.specs.Values.{valueOf, isValue, valueAt, numberOf, noValue, r
 use Rattle.access.specs.declared.part.Part.{Part}
 use Rattle.access.specs.declared.value.Value.{Value as Given}
 use Rattle.access.specs.declared.value.Value.the-variants.{Nothing}
-use Rattle.access.proofs.Values.{value-none}
-use Rattle.values.specs.Value.{Value, numbers, characters, elements, parts, Values, count, numberCount, numberWidth, AllBelow, Scalar, Fits, plain, enumeration, quantity, string, array, cluster, AllFit, without, element, EachFits, done, member, inOrder, flatten, flattenElements, flattenMembers, Data}
+use Rattle.access.proofs.Values.{inside, value-none}
+use Rattle.values.specs.Value.{Value, numbers, characters, elements, parts, Values, count, AllBelow, Scalar, Fits, plain, enumeration, quantity, string, array, cluster, AllFit, without, element, EachFits, done, member, inOrder, flatten, flattenElements, flattenMembers, Data}
+use Rattle.byteorder.specs.Reversal.{numberCount, numberWidth}
 use Rattle.values.specs.Pieces.{piecesAt}
 use Rattle.values.proofs.Places.{Here, here-whole, here-first, here-second}
 use Rattle.values.proofs.Numbers.{number-read, length-inOrder}
@@ -41,7 +42,7 @@ use Rattle.values.proofs.Accepted.{data-walked}
 use Rattle.demands.proofs.Accepted.{Described}
 use Rattle.demands.proofs.Data.{UsesAll, uses-exactly, walked-answer}
 use Rattle.demands.proofs.Parts.{partFrom, top, located-spot}
-use Rattle.demands.proofs.Bits.{Number, integer, natural, item, single, double, flag, bounds, either, measured, Formed, path-formed, given, read-spot}
+use Rattle.demands.proofs.Bits.{Number, integer, natural, item, single, double, flag, either, measured, Formed, path-formed, given, read-spot}
 use Rattle.demands.proofs.Reached.{Reached, nowhere, there, onFrom, memberIn, elementIn, stepIn, reachFrom, reach, loneOf, numberIn, OneNumber, alone, readingThere, partThere, bytesThere}
 
 -- where the walk leads: to the spot of what stands there, whose bytes stand from the spot on, or to the same refused step
@@ -132,7 +133,7 @@ valueless c n h =
     (out 21 23 (λ l m. h (item l m))))
   where
     out : (low high : ℕ) → (low ≤ c → c ≤ high → ⊥) → between low high c ≡ false
-    out low high k = either (between low high c) (λ e. let l = bounds low high c e in absurd (k (l .0) (l .1))) (λ e. e)
+    out low high k = either (between low high c) (λ e. let l = inside low high c e in absurd (k (l .0) (l .1))) (λ e. e)
 
 -- the one test of a value, as an outcome and as an answer
 judged : (at : ℕ) (w : Given) → judge noValue 4 (require (isValue w) 31 0 (read at w)) given ≡ cond (isValue w) (given w) (noValue 31 4 0)

@@ -23,7 +23,7 @@ use Rattle.values.specs.Value.{Value, Fits, other, flatten}
 use Rattle.values.proofs.Accepted.{Accepts, sound}
 use Rattle.values.proofs.Forms.{Form, there-and-back, form-bytes, little-exactly}
 use Rattle.values.proofs.Answers.{to-little, from-little}
-use Rattle.values.proofs.Refusals.{refused-number}
+use Rattle.flattened.proofs.Refusals.{refused-number}
 use Rattle.demands.proofs.Accepted.{Described, described-read}
 use Rattle.demands.proofs.Frame.{Framed, judge-framed, written-framed}
 use Rattle.demands.proofs.Shape.{front}
@@ -69,7 +69,7 @@ module _ (o : Order) (d : List ℕ) (x : Described d) (s : List ℕ) (bytes : By
   unfolding turned writtenTo
   zero-turns out (refused number place) e zero =
       let same : turned o d s out .answer .number ≡ number = rw (described-read d x, e) refl in
-      absurd (omega (arith, refused-number o (x .tree) s number place e))
+      absurd (omega (arith, refused-number s o (x .tree) number place e))
   zero-turns out (read q ts) e zero = fits (leb (length (reversed s ts)) (length out)) refl
     where
       fits : (b : Bool) → leb (length (reversed s ts)) (length out) ≡ b → Turns out

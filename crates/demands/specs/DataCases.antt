@@ -20,7 +20,7 @@ use Rattle.descriptor.specs.declared.answer.Answer.{Answer}
 use Rattle.flattened.specs.Order.{numberAt}
 use Rattle.flattened.specs.Walk.{scalarAt, plainAt, textAt, sizesAt, sizesFit, product, arrayAt, repeat, walkFields, walk, walkAll, walked}
 use Rattle.flattened.specs.Answers.{dataCheck}
-use Rattle.byteorder.specs.Reversal.{reverseEach, reverseToken, reversed, turned, toLittleEndian, fromLittleEndian}
+use Rattle.byteorder.specs.Reversal.{reverseEach, numberCount, numberWidth, reverseToken, reversed, turned, toLittleEndian, fromLittleEndian}
 use Rattle.access.specs.Path.{memberAt, stepAt, spotAt, noPart, partOf, located}
 use Rattle.access.specs.Values.{ofSingle, ofDouble, valueOf, isValue, numberOf, noValue, readValue, valueKind, complement, valueBits}
 use Rattle.access.specs.declared.part.Part.{Part}
@@ -180,5 +180,5 @@ pub turned-data : (toLittleEndian (scalar 0x0C) (few 1 ++ few 2) (room 9) ≡ wr
     × (toLittleEndian p5 (0xFF ∷ 0xFE ∷ []) [] ≡ unwritten [] 21 3 2)
     × (fromLittleEndian words (0x00 ∷ 0x00 ∷ 0x00 ∷ 0x80 ∷ []) (room 4) ≡ unwritten (room 4) 22 3 0)
     × (fromLittleEndian flags (0x01 ∷ 0 ∷ 0 ∷ 0 ∷ 2 ∷ []) (room 5) ≡ unwritten (room 5) 24 3 4)
-unfolding be beBytes le leBytes kindOf childCount countOf itemsSize fieldsSize nameSize treeSize forestSize rowCount forestRows headerAt countAt runAt itemAt itemsAt pairsAt fieldsRead judged contentsAt fillAt filledAt fieldsAt membersAt nameAt nodeAt treeAt checked widthOf numberAt scalarAt plainAt textAt sizesAt sizesFit product arrayAt repeat walkFields walk walkAll walked writtenTo reverseEach reverseToken reversed turned
+unfolding be beBytes le leBytes kindOf childCount countOf itemsSize fieldsSize nameSize treeSize forestSize rowCount forestRows headerAt countAt runAt itemAt itemsAt pairsAt fieldsRead judged contentsAt fillAt filledAt fieldsAt membersAt nameAt nodeAt treeAt checked widthOf numberAt scalarAt plainAt textAt sizesAt sizesFit product arrayAt repeat walkFields walk walkAll walked writtenTo reverseEach numberCount numberWidth reverseToken reversed turned
 turned-data = (refl, refl, refl, refl, refl, refl, refl, refl)

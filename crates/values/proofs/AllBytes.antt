@@ -8,7 +8,8 @@ use Rattle.descriptor.specs.Tree.{Tree, Forest, nil, cons}
 use Rattle.descriptor.specs.Encoding.{Bytes}
 use Rattle.encoding.proofs.Slices.{bytes-append, bytes-beBytes}
 use Rattle.flattened.specs.Order.{Order, big, little}
-use Rattle.values.specs.Value.{Value, Values, numberWidth, Fits, plain, enumeration, quantity, string, array, cluster, AllFit, without, element, EachFits, done, member, ordered, inOrder, flatten, flattenElements, flattenMembers}
+use Rattle.values.specs.Value.{Value, Values, Fits, plain, enumeration, quantity, string, array, cluster, AllFit, without, element, EachFits, done, member, ordered, inOrder, flatten, flattenElements, flattenMembers}
+use Rattle.byteorder.specs.Reversal.{numberWidth}
 
 -- a number's, least significant byte first
 bytes-leBytes : (w n : ℕ) → Bytes (leBytes w n)

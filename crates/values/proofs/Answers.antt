@@ -23,7 +23,7 @@ use Rattle.byteorder.specs.Reversal as Reversal
 use Rattle.values.specs.Value.{Value, Fits, other, flatten, Data}
 use Rattle.values.specs.Pieces.{pieces}
 use Rattle.values.proofs.Accepted.{complete, turned, sound}
-use Rattle.values.proofs.Refusals.{refused-number}
+use Rattle.flattened.proofs.Refusals.{refused-number}
 
 -- a descriptor d of the type t, and a value of it
 module _ (d : List ℕ) (n : ℕ) (t : Tree) (known : checked d ≡ read n t) (v : Value) (fits : Fits t v) where
@@ -54,7 +54,7 @@ module _ (d : List ℕ) (known-bytes : Bytes d) (n : ℕ) (t : Tree) (known : ch
   unfolding dataCheck
   zero-data (refused number place) e zero =
       let same : dataCheck d s .number ≡ number = rw (known, e) refl in
-      absurd (omega (arith, refused-number big t s number place e))
+      absurd (omega (arith, refused-number s big t number place e))
   zero-data (read q ts) e zero =
       let formed = accepted-spells d known-bytes t n known .1 .0 .formed in
       let r = sound big t formed s b q ts e in

@@ -14,7 +14,8 @@ use Rattle.descriptor.specs.Outcome.{refused}
 use Rattle.descriptor.specs.Width.{widthOf}
 use Rattle.flattened.specs.Order.{big, little, numberAt}
 use Rattle.flattened.specs.Walk.{scalarAt, plainAt, sizesAt, sizesFit, product, arrayAt, repeat, walkFields, walk, walked}
-use Rattle.values.specs.Value.{Value, numbers, elements, parts, none, also, count, numberCount, numberWidth, numberLimit, AllBelow, Fits, plain, array, cluster, without, done, member, ordered, inOrder, flatten, Data}
+use Rattle.values.specs.Value.{Value, numbers, elements, parts, none, also, count, numberLimit, AllBelow, Fits, plain, array, cluster, without, done, member, ordered, inOrder, flatten, Data}
+use Rattle.byteorder.specs.Reversal.{numberCount, numberWidth}
 use Rattle.values.specs.Pieces.{piecesAt, pieces}
 use Rattle.values.proofs.Accepted.{refused-none}
 

@@ -3,7 +3,7 @@
 use mathlib.Core.Path.{_≡_, refl, sym, ap, ap₂, subst, _∙_}
 use mathlib.Core.Bool.{Bool, false}
 use mathlib.Core.List.{List, [], _∷_, _++_}
-use Prim.Native.Nat.{ℕ, _+_, _*_, _≤_, _<_}
+use Prim.Native.Nat.{ℕ, _+_, _*_, _<_}
 use native.Mathlib.Omega.{arith}
 use lib.ListN.{length, length-append}
 use lib.Seq.{slice, slice-empty}
@@ -15,6 +15,7 @@ use Rattle.encoding.proofs.Slices.{slice-all, slice-join}
 use Rattle.flattened.specs.Order.{Order, big}
 use Rattle.flattened.specs.Token.{Token, joined, Chain, link}
 use Rattle.flattened.specs.Walk.{walked}
+use Rattle.byteorder.proofs.Chained.{chain-order, chain-append}
 use Rattle.values.specs.Value.{Value, Values, Fits, plain, enumeration, quantity, string, array, cluster, AllFit, without, element, EachFits, member, ordered, inOrder, flatten, flattenElements, flattenMembers}
 use Rattle.values.specs.Pieces.{pieces, piecesAt, elementPieces, memberPieces}
 use Rattle.values.proofs.Codes.{some-width}
@@ -22,16 +23,6 @@ use Rattle.values.proofs.Numbers.{length-ordered, length-inOrder}
 use Rattle.values.proofs.Scalars.{scalar-length}
 use Rattle.values.proofs.Lengths.{value-length}
 use Rattle.values.proofs.Accepted.{sound}
-
--- a chain ends no earlier than it starts
-chain-order : {a b : ℕ} {ts : List Token} → Chain a ts b → a ≤ b
-chain-order Chain.done = omega arith
-chain-order (link e h c) = omega (arith, chain-order c)
-
--- one chain after another
-chain-append : {a b c : ℕ} {ts us : List Token} → Chain a ts b → Chain b us c → Chain a (ts ++ us) c
-chain-append Chain.done d = d
-chain-append (link e h c) d = link e h (chain-append c d)
 
 -- the bytes of a chain's tokens are all from its start to its end
 pub chain-joined : (s : List ℕ) {a b : ℕ} {ts : List Token} → Chain a ts b → joined s ts ≡ slice a b s

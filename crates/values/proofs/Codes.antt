@@ -12,7 +12,7 @@ use Rattle.descriptor.proofs.Sizes.{and-true, both-true}
 use Rattle.descriptor.specs.Width.{widthOf}
 use Rattle.descriptor.proofs.CodeKinds.{kindNumber}
 use Rattle.descriptor.proofs.Widths.{passes, each, none-past}
-use Rattle.values.specs.Value.{numberCount}
+use Rattle.byteorder.specs.Reversal.{numberCount}
 
 -- a complex number's width is even; a code of numbers has a width; and an enumeration has one number, which is no flag
 test : ℕ → Bool

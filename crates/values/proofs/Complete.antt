@@ -17,12 +17,12 @@ use Rattle.flattened.specs.Order.{Order, big, numberAt}
 use Rattle.flattened.specs.Token.{TokenKind, scalar, string, sizes, Token, tokenBytes}
 use Rattle.descriptor.specs.Limits.{lengthLimit}
 use Rattle.flattened.specs.Walk.{token, single, scalarAt, plainAt, textAt, sizesAt, sizesFit, product, arrayAt, follow, repeat, walkFields, walk, walkAll}
-use Rattle.byteorder.specs.Reversal.{reverseEach, reverseToken, reversed}
-use Rattle.values.specs.Value.{Value, Values, count, numberWidth, AllBelow, Scalar, Fits, plain, enumeration, quantity, array, cluster, AllFit, without, element, EachFits, done, member, other, ordered, inOrder, flatten, flattenElements, flattenMembers}
+use Rattle.byteorder.specs.Reversal.{reverseEach, reverseToken, reversed, numberWidth}
+use Rattle.values.specs.Value.{Value, Values, count, AllBelow, Scalar, Fits, plain, enumeration, quantity, array, cluster, AllFit, without, element, EachFits, done, member, other, ordered, inOrder, flatten, flattenElements, flattenMembers}
 use Rattle.values.specs.Pieces.{piecesAt, elementPieces, memberPieces}
 use Rattle.values.proofs.Places.{Here, here-up-to, here-first, here-second}
 use Rattle.values.proofs.Numbers.{length-ordered, number-read, length-inOrder, numbersAt, numbers-read, first-reversed, inOrder-reversed, below-less}
-use Rattle.values.proofs.Scalars.{lone-width, scalar-bound, scalar-length, scalar-reversed, flag-passes}
+use Rattle.values.proofs.Scalars.{lone-width, scalar-bound, scalar-length, flag-passes}
 use Rattle.values.proofs.Lengths.{value-length}
 
 -- the outcome r is a walk of s up to q with the tokens ts, whose numbers reversed are x
@@ -74,14 +74,13 @@ module _ (o : Order) (s : List ℕ) where
   scalar-walks : (c p : ℕ) (ns : List ℕ) (fits : Bool) (number : ℕ) → Scalar c ns → Here s p (inOrder o (numberWidth c) ns) → fits ≡ true
       → Walks s (p + length (inOrder o (numberWidth c) ns)) (token (scalar c) p (p + widthOf c) ∷ []) (inOrder (other o) (numberWidth c) ns)
       (scalarAt c s p fits number)
-  unfolding scalarAt
+  unfolding scalarAt reverseToken
   scalar-walks c p ns fits number h e t =
       let w : ℕ = numberWidth c in
       let x : List ℕ = inOrder o w ns in
       let end : p + widthOf c ≡ p + length x = omega (arith, scalar-length o c ns (h .many)) in
       let turn : reverseToken (scalar c) x ≡ inOrder (other o) w ns =
-      scalar-reversed c x
-      ∙ ap₂ (λ (k : ℕ) (l : List ℕ). reverseEach w k l) (sym (h .many)) (sym (append-nil x))
+      ap₂ (λ (k : ℕ) (l : List ℕ). reverseEach w k l) (sym (h .many)) (sym (append-nil x))
       ∙ inOrder-reversed o w ns []
       ∙ append-nil _ in
       walks-as end refl refl

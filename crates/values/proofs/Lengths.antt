@@ -6,7 +6,8 @@ use native.Mathlib.Omega.{arith}
 use lib.ListN.{length, length-append}
 use Rattle.descriptor.specs.Tree.{Tree, Forest, nil, cons}
 use Rattle.flattened.specs.Order.{Order}
-use Rattle.values.specs.Value.{Value, Values, numberWidth, Fits, plain, enumeration, quantity, string, array, cluster, AllFit, without, element, EachFits, done, member, ordered, inOrder, flatten, flattenElements, flattenMembers}
+use Rattle.values.specs.Value.{Value, Values, Fits, plain, enumeration, quantity, string, array, cluster, AllFit, without, element, EachFits, done, member, ordered, inOrder, flatten, flattenElements, flattenMembers}
+use Rattle.byteorder.specs.Reversal.{numberWidth}
 use Rattle.values.proofs.Numbers.{length-ordered, length-inOrder}
 
 -- lists of one length, one after the other

@@ -9,7 +9,6 @@ pub mod Unique
 pub mod AllBytes
 pub mod Accepted
 pub mod Forms
-pub mod Refusals
 pub mod Answers
 pub mod Cases
 pub mod Chained

@@ -11,10 +11,9 @@ use Rattle.descriptor.specs.Codes.{Kind, kindOf}
 use Rattle.descriptor.specs.Encoding.{Bytes}
 use Rattle.descriptor.specs.Width.{widthOf}
 use Rattle.flattened.specs.Order.{Order, numberAt}
-use Rattle.flattened.specs.Token.{scalar}
 use Rattle.descriptor.specs.Codes.{isComplex}
-use Rattle.byteorder.specs.Reversal.{reverseEach, reverseToken}
-use Rattle.values.specs.Value.{numberCount, numberWidth, numberLimit, AllBelow, Scalar, inOrder}
+use Rattle.byteorder.specs.Reversal.{numberCount, numberWidth}
+use Rattle.values.specs.Value.{numberLimit, AllBelow, Scalar, inOrder}
 use Rattle.values.proofs.Codes.{one-number, halves}
 use Rattle.values.proofs.Places.{Here, here-first}
 use Rattle.values.proofs.Numbers.{length-inOrder, number-read, byte-read, numbersAt, length-numbersAt, numbers-bound, below-less}
@@ -52,16 +51,6 @@ scalar-bound c ns h = below-less (numberLimit c) (256 ^ numberWidth c) ns (limit
 -- its bytes
 pub scalar-length : (o : Order) (c : ℕ) (ns : List ℕ) → length ns ≡ numberCount c → length (inOrder o (numberWidth c) ns) ≡ widthOf c
 scalar-length o c ns h = length-inOrder o (numberWidth c) ns ∙ ap (λ (k : ℕ). k * numberWidth c) h ∙ fill-width c
-
--- each is reversed in place
-pub scalar-reversed : (c : ℕ) (x : List ℕ) → reverseToken (scalar c) x ≡ reverseEach (numberWidth c) (numberCount c) x
-unfolding reverseToken numberWidth numberCount
-scalar-reversed c x = go (isComplex c)
-  where
-    go : (b : Bool)
-        → cond b (reverseEach (widthOf c / 2) 2 x) (reverseEach (widthOf c) 1 x) ≡ reverseEach (cond b (widthOf c / 2) (widthOf c)) (cond b 2 1) x
-    go true = refl
-    go false = refl
 
 -- a flag's byte
 flag-read : (o : Order) (s : List ℕ) (p : ℕ) (ns : List ℕ) → Scalar 33 ns → Here s p (inOrder o (numberWidth 33) ns) → getD s p 0 ≤ 1

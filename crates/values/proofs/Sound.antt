@@ -19,7 +19,8 @@ use Rattle.descriptor.specs.Width.{widthOf}
 use Rattle.flattened.specs.Order.{Order, numberAt}
 use Rattle.descriptor.specs.Limits.{lengthLimit}
 use Rattle.flattened.specs.Walk.{plainAt, scalarAt, textAt, sizesAt, sizesFit, product, arrayAt, repeat, walkFields, walk, walkAll}
-use Rattle.values.specs.Value.{Value, numbers, characters, elements, parts, Values, none, also, count, numberCount, numberWidth, AllBelow, Scalar, Fits, plain, enumeration, quantity, string, array, cluster, AllFit, without, element, EachFits, done, member, ordered, inOrder, flatten, flattenElements, flattenMembers}
+use Rattle.values.specs.Value.{Value, numbers, characters, elements, parts, Values, none, also, count, AllBelow, Scalar, Fits, plain, enumeration, quantity, string, array, cluster, AllFit, without, element, EachFits, done, member, ordered, inOrder, flatten, flattenElements, flattenMembers}
+use Rattle.byteorder.specs.Reversal.{numberCount, numberWidth}
 use Rattle.values.proofs.Places.{Here, here-by, here-none, here-then}
 use Rattle.values.proofs.Numbers.{length-ordered, number-stands, numbersAt, length-numbersAt, length-inOrder, numbers-stand}
 use Rattle.values.proofs.Scalars.{scalarNumbers, fill-width, scalar-length, passes-scalar, enumeration-number, enumeration-scalar}

@@ -7,7 +7,8 @@ use lib.ListN.{length}
 use Rattle.descriptor.specs.Tree.{Tree, Forest, nil, cons}
 use Rattle.encoding.proofs.Slices.{append-apart}
 use Rattle.flattened.specs.Order.{Order}
-use Rattle.values.specs.Value.{Value, numbers, characters, elements, parts, Values, also, count, numberWidth, AllBelow, Scalar, Fits, plain, enumeration, quantity, string, array, cluster, AllFit, without, element, EachFits, done, member, ordered, inOrder, flatten, flattenElements, flattenMembers}
+use Rattle.values.specs.Value.{Value, numbers, characters, elements, parts, Values, also, count, AllBelow, Scalar, Fits, plain, enumeration, quantity, string, array, cluster, AllFit, without, element, EachFits, done, member, ordered, inOrder, flatten, flattenElements, flattenMembers}
+use Rattle.byteorder.specs.Reversal.{numberWidth}
 use Rattle.values.proofs.Numbers.{length-ordered, ordered-apart, inOrder-apart, below-less}
 use Rattle.values.proofs.Scalars.{scalar-bound}
 

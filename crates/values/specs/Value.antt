@@ -2,16 +2,16 @@
 use mathlib.Core.Path.{_≡_}
 use mathlib.Core.Bool.{cond}
 use mathlib.Core.List.{List, [], _∷_, _++_, foldr}
-use Prim.Native.Nat.{ℕ, suc, _*_, _/_, _^_, _<_}
+use Prim.Native.Nat.{ℕ, suc, _*_, _^_, _<_}
 use lib.Dec.{eqb}
 use lib.ListN.{length}
 use Rattle.number.specs.Endian.{beBytes, leBytes}
 use Rattle.descriptor.specs.Tree.{Name, Pair, empty, items, pairs, text, dimensions, members, Tree, node, Forest, nil, cons}
 use Rattle.descriptor.specs.Limits.{lengthLimit}
 use Rattle.descriptor.specs.Encoding.{Bytes}
-use Rattle.descriptor.specs.Width.{widthOf}
 use Rattle.flattened.specs.Order.{Order, big, little}
-use Rattle.descriptor.specs.Codes.{isComplex, booleanCode}
+use Rattle.byteorder.specs.Reversal.{numberCount, numberWidth}
+use Rattle.descriptor.specs.Codes.{booleanCode}
 
 mutual
   pub data Value : Type 0 where
@@ -33,14 +33,6 @@ mutual
 unfoldable pub count : Values → ℕ
 count none = 0
 count (also v vs) = suc (count vs)
-
--- "half of a complex number": how many numbers a scalar of the code c has
-unfoldable pub numberCount : ℕ → ℕ
-numberCount c = cond (isComplex c) 2 1
-
--- "A code's width in data comes from one table": the bytes of each of its numbers
-unfoldable pub numberWidth : ℕ → ℕ
-numberWidth c = cond (isComplex c) (widthOf c / 2) (widthOf c)
 
 -- "A Boolean's byte is 0 for false or 1 for true." Every other number is any that its bytes can say.
 unfoldable pub numberLimit : ℕ → ℕ

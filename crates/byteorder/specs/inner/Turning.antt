@@ -1,15 +1,13 @@
 -- How the code turns accepted data from one byte order to the other: number by number and token by token, each at its own place of the
 -- output, and what its functions need and promise.
 use mathlib.Core.Path.{_≡_}
-use mathlib.Core.Bool.{true, cond}
+use mathlib.Core.Bool.{true}
 use mathlib.Core.List.{List, [], _∷_, reverse}
-use Prim.Native.Nat.{ℕ, zero, suc, _+_, _*_, _/_, _≤_}
+use Prim.Native.Nat.{ℕ, zero, suc, _+_, _*_, _≤_}
 use lib.ListN.{length, take, drop}
 use lib.Seq.{sets}
-use Rattle.descriptor.specs.Codes.{isComplex}
 use Rattle.descriptor.specs.Limits.{dataLimit}
 use Rattle.descriptor.specs.Outcome.{Outcome, refused, read}
-use Rattle.descriptor.specs.Width.{widthOf}
 use Rattle.descriptor.specs.inner.Standing.{isRead, nextOf}
 use Rattle.flattened.specs.Order.{Order}
 use Rattle.flattened.specs.Token.{Token, tokenBytes}
@@ -37,13 +35,6 @@ turnedTokens s (t ∷ ts) out = turnedTokens s ts (sets out (t .start) (reverseT
 unfoldable pub tokensOf : Outcome (List Token) → List Token
 tokensOf (refused number place) = []
 tokensOf (read next ts) = ts
-
--- a scalar is one number, a complex one two: the bytes of each, and how many there are
-unfoldable pub numberWidth : ℕ → ℕ
-numberWidth c = cond (isComplex c) (widthOf c / 2) (widthOf c)
-
-unfoldable pub numberCount : ℕ → ℕ
-numberCount c = cond (isComplex c) 2 1
 
 -- a number is of one, two, four, eight or sixteen bytes
 pub record NumberWide (w : ℕ) : Type 0 where
