@@ -6,7 +6,7 @@ use crate::plan::{Element, Join, Limit, Numbers, Op};
 use crate::rows::{Rows, ask};
 use crate::tour::{Cursor, FEW, walk_rows};
 use crate::walk::{Refusal, refuse};
-use crate::{Answer, accepted, refused};
+use crate::{Answer, MOST_ROWS, accepted, refused};
 
 /// The longest data that is read, in bytes.
 pub const MOST_DATA: usize = 65536;
@@ -19,16 +19,52 @@ pub fn check_data(descriptor: &[u8], data: &[u8]) -> Answer {
 
 /// Judges the whole data as input 3, its words read in this order. Returns the
 /// number of pieces.
-#[inline(never)]
+#[inline(always)]
 pub(crate) fn judge_data(rows: Rows, data: &[u8], order: impl Order) -> Result<usize, Answer> {
-    match walk_data(rows, data, order) {
+    judge_and_note(rows, data, order, ())
+}
+
+/// The same, with a note of where each row starts in the data.
+#[inline(never)]
+pub(crate) fn judge_and_note(
+    rows: Rows,
+    data: &[u8],
+    order: impl Order,
+    notes: impl Notes,
+) -> Result<usize, Answer> {
+    match walk_data(rows, data, order, notes) {
         Ok(pieces) => Ok(pieces),
         Err(refusal) => Err(refused(refusal, 3)),
     }
 }
 
+/// Is told where each row starts in the data, those of elements apart.
+pub(crate) trait Notes {
+    fn note(&mut self, row: usize, place: usize);
+}
+
+/// Notes nothing.
+impl Notes for () {
+    #[inline(always)]
+    fn note(&mut self, _row: usize, _place: usize) {}
+}
+
+/// By row. Every type needs at least one byte, so in accepted data a row starts
+/// before byte 65,536.
+impl Notes for &mut [u16; MOST_ROWS] {
+    #[inline(always)]
+    fn note(&mut self, row: usize, place: usize) {
+        self[row] = place as u16;
+    }
+}
+
 #[inline(always)]
-fn walk_data(rows: Rows, data: &[u8], order: impl Order) -> Result<usize, Refusal> {
+fn walk_data(
+    rows: Rows,
+    data: &[u8],
+    order: impl Order,
+    notes: impl Notes,
+) -> Result<usize, Refusal> {
     if data.len() > MOST_DATA {
         return refuse(20, 0);
     }
@@ -38,6 +74,7 @@ fn walk_data(rows: Rows, data: &[u8], order: impl Order) -> Result<usize, Refusa
         rest: data,
         pieces: 0,
         order,
+        notes,
     };
     let check = walk_rows(rows, rows.all(), check)?;
     if !check.rest.is_empty() {
@@ -47,17 +84,23 @@ fn walk_data(rows: Rows, data: &[u8], order: impl Order) -> Result<usize, Refusa
 }
 
 /// The cursor of the check: what is left of the data, and the pieces so far.
-struct Check<'a, O> {
+struct Check<'a, O, N> {
     rows: Rows<'a>,
     length: usize,
     rest: &'a [u8],
     pieces: usize,
     order: O,
+    notes: N,
 }
 
-impl<O: Order> Cursor for Check<'_, O> {
+impl<O: Order, N: Notes> Cursor for Check<'_, O, N> {
     type Refusal = Refusal;
     const JOIN: Join = Join::Plain;
+
+    #[inline(always)]
+    fn meet(&mut self, row: usize) {
+        self.notes.note(row, self.place());
+    }
 
     /// 21.
     #[inline(always)]
@@ -130,7 +173,7 @@ impl<O: Order> Cursor for Check<'_, O> {
     }
 }
 
-impl<O: Order> Check<'_, O> {
+impl<O: Order, N> Check<'_, O, N> {
     /// The first byte not yet passed.
     #[inline(always)]
     fn place(&self) -> usize {

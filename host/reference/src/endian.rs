@@ -3,6 +3,7 @@
 
 use std::convert::Infallible;
 
+use crate::copy::{copy, copy_front};
 use crate::data::judge_data;
 use crate::order::{Big, Little, Order, times};
 use crate::plan::{Element, Join, Limit, Numbers, Op};
@@ -49,9 +50,6 @@ fn reverse_data(rows: Rows, data: &[u8], out: &mut [u8], order: impl Order) {
 /// How much of an array of clusters is reversed at a time, in bytes, so that it
 /// stays near while one number after the other is reversed.
 const STRETCH: usize = 2048;
-
-/// A short string, in bytes.
-const SHORT: usize = 32;
 
 /// The cursor of the reversal: everything before `start` is written.
 struct Reversal<'a, O> {
@@ -134,19 +132,11 @@ impl<O: Order> Reversal<'_, O> {
         self.order.word(word)
     }
 
-    /// Writes the next bytes as they are. A copy of one length is quicker, and
-    /// what it writes too much is written again by what follows.
+    /// Writes the next bytes as they are.
     #[inline(always)]
     fn copy(&mut self, length: usize) {
-        let data = self.data[self.start..].first_chunk::<SHORT>();
-        let out = self.out[self.start..].first_chunk_mut::<SHORT>();
-        match (data, out) {
-            (Some(data), Some(out)) if length <= SHORT => *out = *data,
-            _ => {
-                let bytes = self.start..self.start + length;
-                reverse::copy(&self.data[bytes.clone()], &mut self.out[bytes]);
-            }
-        }
+        let (data, out) = (&self.data[self.start..], &mut self.out[self.start..]);
+        copy_front(data, out, length);
         self.start += length;
     }
 }
@@ -156,7 +146,7 @@ impl<O: Order> Reversal<'_, O> {
 fn columns(ops: &[Op], width: usize, data: &[u8], out: &mut [u8]) {
     let stretch = STRETCH.div_ceil(width) * width;
     for (data, out) in data.chunks(stretch).zip(out.chunks_mut(stretch)) {
-        reverse::copy(data, out);
+        copy(data, out);
         let mut offset = 0;
         for op in ops {
             if let Op::Numbers(numbers) = op {

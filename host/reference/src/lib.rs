@@ -1,18 +1,23 @@
 //! The questions of document 01 about a descriptor and its data, answered a
 //! second time in safe Rust: descriptor check, compare and normal form; data
-//! check, view, value, to little-endian and back. Nothing here allocates.
+//! check, view, value, to little-endian and back; the record in a reader's
+//! shape. Nothing here allocates.
 #![forbid(unsafe_code)]
 
+mod copy;
 mod data;
 mod endian;
 mod judge;
 mod kind;
+mod members;
 mod normal;
 mod order;
 mod path;
 mod plan;
+mod record;
 mod reverse;
 mod rows;
+mod search;
 mod shape;
 mod tour;
 mod walk;
@@ -20,6 +25,7 @@ mod walk;
 pub use data::{MOST_DATA, check_data};
 pub use endian::{from_little_endian, to_little_endian};
 pub use path::{Part, Value, read_value, view};
+pub use record::read_record;
 
 use normal::Starts;
 use walk::{Refusal, Visitor};
@@ -127,7 +133,7 @@ pub fn compare(first: &[u8], second: &[u8]) -> Compared {
         Err(refusal) => Err(refused(refusal, 1)),
         Ok(rows) => match walk::walk(second, &mut ()) {
             Err(refusal) => Err(refused(refusal, 2)),
-            Ok(_) => Ok(normal::agree(first, second, starts.first(rows))),
+            Ok(_) => Ok(normal::agree(first, second, starts.first(rows), 0)),
         },
     };
     Compared {

@@ -39,17 +39,18 @@ pub(crate) fn write(descriptor: &[u8], starts: &[u16], out: &mut [u8]) {
 }
 
 /// Whether two accepted descriptors are the same bytes apart from the reserved
-/// bytes behind `starts`, the starts of the first. Up to the first difference
-/// elsewhere both have the same tree, so the second's own starts aren't needed.
-pub(crate) fn agree(first: &[u8], second: &[u8], starts: &[u16]) -> bool {
+/// ones. The first stands at `at` among the bytes in which it has these starts.
+/// Up to the first difference elsewhere both have the same tree, so the second's
+/// own starts aren't needed.
+pub(crate) fn agree(first: &[u8], second: &[u8], starts: &[u16], at: usize) -> bool {
     if first.len() != second.len() {
         return false;
     }
     let mut starts = starts.iter();
     let mut reserved = |place: usize| {
         starts
-            .find(|&&start| usize::from(start) + 2 >= place)
-            .is_some_and(|&start| usize::from(start) + 2 == place)
+            .find(|&&start| usize::from(start) + 2 >= at + place)
+            .is_some_and(|&start| usize::from(start) + 2 == at + place)
     };
     let (first_words, first_rest) = first.as_chunks::<8>();
     let (second_words, second_rest) = second.as_chunks::<8>();

@@ -43,17 +43,6 @@ fn number(data: &[u8], out: &mut [u8]) {
     }
 }
 
-/// Some machines are slow to copy many bytes at once, so a long copy is made of
-/// short ones.
-const STRETCH: usize = 2048;
-
-#[inline(always)]
-pub(crate) fn copy(data: &[u8], out: &mut [u8]) {
-    for (data, out) in data.chunks(STRETCH).zip(out.chunks_mut(STRETCH)) {
-        out.copy_from_slice(data);
-    }
-}
-
 #[inline(always)]
 fn one_by_one<const UNIT: usize>(data: &[u8], out: &mut [u8])
 where

@@ -2,7 +2,7 @@
 
 use std::ops::Range;
 
-use crate::normal::Starts;
+use crate::normal::{Starts, agree};
 use crate::shape::{SHAPES, Shape};
 use crate::walk::walk;
 use crate::{Answer, refused};
@@ -10,7 +10,7 @@ use crate::{Answer, refused};
 /// An accepted descriptor, and where each of its rows starts in it.
 #[derive(Clone, Copy)]
 pub(crate) struct Rows<'a> {
-    descriptor: &'a [u8],
+    pub(crate) descriptor: &'a [u8],
     starts: &'a [u16],
 }
 
@@ -22,15 +22,17 @@ pub(crate) fn ask<T>(
 ) -> Result<T, Answer> {
     let mut starts = Starts::default();
     match walk(descriptor, &mut starts) {
-        Ok(rows) => question(Rows {
-            descriptor,
-            starts: starts.first(rows),
-        }),
+        Ok(rows) => question(Rows::new(descriptor, starts.first(rows))),
         Err(refusal) => Err(refused(refusal, 1)),
     }
 }
 
-impl Rows<'_> {
+impl<'a> Rows<'a> {
+    #[inline(always)]
+    pub(crate) fn new(descriptor: &'a [u8], starts: &'a [u16]) -> Self {
+        Rows { descriptor, starts }
+    }
+
     /// The numbers of all rows.
     #[inline(always)]
     pub(crate) fn all(self) -> Range<usize> {
@@ -68,6 +70,21 @@ impl Rows<'_> {
             behind += 1;
         }
         behind
+    }
+
+    /// The bytes of this row's own descriptor.
+    #[inline(always)]
+    fn own(self, row: usize) -> &'a [u8] {
+        let start = self.start(row);
+        &self.descriptor[start..start + usize::from(self.half(start))]
+    }
+
+    /// Whether this row and one of another descriptor are equal, each with its
+    /// name and all that it holds, reserved bytes apart.
+    #[inline(always)]
+    pub(crate) fn same_type(self, row: usize, other: Rows, other_row: usize) -> bool {
+        let (own, others) = (self.own(row), other.own(other_row));
+        own == others || agree(own, others, &self.starts[row..], self.start(row))
     }
 
     #[inline(always)]

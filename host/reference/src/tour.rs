@@ -17,6 +17,9 @@ pub(crate) const FEW: usize = 4;
 pub(crate) trait Cursor: Sized {
     type Refusal;
     const JOIN: Join;
+    /// Is told of each row before it is passed, those of elements apart.
+    #[inline(always)]
+    fn meet(&mut self, _row: usize) {}
     /// Passes scalars that are joined.
     fn numbers(&mut self, numbers: Numbers) -> Result<(), Self::Refusal>;
     /// Passes a scalar of one, two or four bytes with a limit.
@@ -38,6 +41,7 @@ pub(crate) fn walk_rows<C: Cursor>(
 ) -> Result<C, C::Refusal> {
     let mut row = range.start;
     while row < range.end {
+        cursor.meet(row);
         let shape = rows.shape(row);
         match shape.act {
             Act::Plain => cursor.numbers(Numbers::of(shape, row))?,

@@ -1,6 +1,7 @@
 //! Every data question compared with a slow walk, over descriptors and data by
 //! chance.
 
+#[allow(dead_code, reason = "each test program uses a part of it")]
 mod naive;
 
 use naive::random::{Random, any_data, any_type, encode, spoil};

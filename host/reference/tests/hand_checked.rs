@@ -2,7 +2,7 @@
 //! of source document 004 under carried codes.
 
 use reference::{Answer, Row, Value, check_data, check_descriptor, compare, normal_form};
-use reference::{from_little_endian, read_value, to_little_endian, view};
+use reference::{from_little_endian, read_record, read_value, to_little_endian, view};
 
 /// The bytes written as groups of hexadecimal digits.
 fn bytes(text: &str) -> Vec<u8> {
@@ -236,6 +236,31 @@ fn p11_data_of_the_rig() {
     let rig = "0014 0050 0002 0006 0002 0174 0008 0007 0269 6400";
     walked(rig, "0019 0000 0009", 2, "1900 0900 0000");
     stands(rig, "0019 0000 0009", &[1], 2, 4);
+}
+
+/// What a reader's shape gives of the record of P11, in plenty of room.
+fn read_rig(reader: &str) -> (Answer, Vec<u8>) {
+    let rig = bytes("0014 0050 0002 0006 0002 0174 0008 0007 0269 6400");
+    let mut out = vec![0xA5; 6];
+    let data = bytes("0019 0000 0009");
+    let answer = read_record(&rig, &bytes(reader), &data, &mut out);
+    (answer, out)
+}
+
+#[test]
+fn p11_record_in_a_readers_shape() {
+    let (given, out) = read_rig("000E 0050 0001 0008 0007 0269 6400");
+    assert_eq!(given, answer(0, 0, 4));
+    assert_eq!(out, bytes("0000 0009 A5A5"));
+}
+
+#[test]
+fn p12_another_type_and_another_name() {
+    let kept = vec![0xA5; 6];
+    let other_type = read_rig("000E 0050 0001 0008 0003 0269 6400");
+    assert_eq!(other_type, (answer(44, 2, 0), kept.clone()));
+    let other_name = read_rig("000E 0050 0001 0008 0007 026E 6F00");
+    assert_eq!(other_name, (answer(42, 2, 0), kept));
 }
 
 #[test]

@@ -2,6 +2,8 @@
 //! written straight from document 01.
 
 pub mod random;
+pub mod record;
+pub mod rigs;
 
 /// What a descriptor describes.
 pub enum Type {

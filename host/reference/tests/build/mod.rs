@@ -1,0 +1,47 @@
+//! Descriptors and answers put together by hand.
+
+use reference::Answer;
+
+/// A descriptor of this code with these bytes behind the header.
+fn descriptor(code: u8, behind: &[u8]) -> Vec<u8> {
+    let size = (4 + behind.len()) as u16;
+    [&size.to_be_bytes(), &[0, code][..], behind].concat()
+}
+
+pub fn plain(code: u8) -> Vec<u8> {
+    descriptor(code, &[])
+}
+
+pub fn text() -> Vec<u8> {
+    descriptor(0x30, &[0xFF; 4])
+}
+
+/// An enumeration of so many items without characters.
+pub fn enumeration(code: u8, items: u16) -> Vec<u8> {
+    let mut behind = items.to_be_bytes().to_vec();
+    behind.resize(2 + usize::from(items).next_multiple_of(2), 0);
+    descriptor(code, &behind)
+}
+
+/// Metres.
+pub fn quantity(code: u8) -> Vec<u8> {
+    descriptor(code, &[0, 1, 0, 3, 0, 1])
+}
+
+pub fn array(dimensions: u8, element: &[u8]) -> Vec<u8> {
+    let words = vec![0xFF; 4 * usize::from(dimensions)];
+    descriptor(0x40, &[&[0, dimensions], &words[..], element].concat())
+}
+
+pub fn cluster(members: &[Vec<u8>]) -> Vec<u8> {
+    let count = (members.len() as u16).to_be_bytes();
+    descriptor(0x50, &[&count[..], &members.concat()].concat())
+}
+
+pub fn answer(number: u32, input: u32, place: u32) -> Answer {
+    Answer {
+        number,
+        input,
+        place,
+    }
+}
