@@ -32,7 +32,7 @@ pub record UsesAll (t : Tree) (s : List ℕ) : Type 0 where
   pub walks : walk big t s 0 ≡ read (length s) tokens
 
 -- what is walked is within the limit, and its walk goes through all of it
-walked-all : (t : Tree) (s : List ℕ) → Holds (λ q ts. (length s ≤ dataLimit) × ((q ≡ length s) × (walk big t s 0 ≡ read q ts))) (walked big t s)
+pub walked-all : (t : Tree) (s : List ℕ) → Holds (λ q ts. (length s ≤ dataLimit) × ((q ≡ length s) × (walk big t s 0 ≡ read q ts))) (walked big t s)
 unfolding walked
 walked-all t s =
     holds-require (leb (length s) dataLimit) _ _ (λ short.

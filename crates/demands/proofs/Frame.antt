@@ -11,11 +11,12 @@ use lib.Dec.{leb}
 use lib.ListN.{length, drop, length-append, length-drop}
 use lib.Seq.{drop-append-seam}
 use Rattle.descriptor.specs.Encoding.{encode}
-use Rattle.descriptor.specs.Outcome.{Outcome, refused, read, judge}
+use Rattle.descriptor.specs.Outcome.{Outcome, refused, read, judge, Verdict, denied, granted, settle}
 use Rattle.descriptor.specs.Check.{checked}
 use Rattle.descriptor.specs.Answers.{accepted}
 use Rattle.descriptor.specs.Output.{Written, unwritten, writtenTo}
 use Rattle.canonical.specs.Normal.{normalForm}
+use Rattle.resolution.specs.Record.{recordBytes, resolved}
 
 -- what the answer w leaves of the output `out`
 pub record Framed (out : List ℕ) (w : Written) : Type 0 where
@@ -54,3 +55,13 @@ judge-framed out input (read q x) w framed = framed x
 pub normal-framed : (d out : List ℕ) → Framed out (normalForm d out)
 unfolding normalForm
 normal-framed d out = judge-framed out 1 (checked d) (λ t. writtenTo out (encode t)) (λ t. written-framed out (encode t))
+
+-- a verdict over several inputs
+settle-framed : (out : List ℕ) (v : Verdict (List ℕ)) → Framed out (settle (unwritten out) (writtenTo out) v)
+settle-framed out (denied number input place) = unwritten-framed out number input place
+settle-framed out (granted bytes) = written-framed out bytes
+
+-- the record of any bytes w, r and s
+pub resolved-framed : (w r s out : List ℕ) → Framed out (resolved w r s out)
+unfolding resolved
+resolved-framed w r s out = settle-framed out (recordBytes w r s)

@@ -18,4 +18,6 @@ pub mod Reading
 pub mod Given
 pub mod Resolved
 pub mod Record
+pub mod Faults
+pub mod Back
 pub mod Found

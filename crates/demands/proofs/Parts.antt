@@ -27,14 +27,14 @@ use Rattle.demands.proofs.Data.{UsesAll, uses-exactly, walked-answer, a
 use Rattle.demands.proofs.Pieces.{Goes, goes-walk, goes-walkAll, goes-repeat}
 
 -- one walk and the next, from where it ended
-record Both (o : Outcome (List Token)) (next : ℕ → Outcome (List Token)) (b : ℕ) : Type 0 where
-  mid : ℕ
-  front : List Token
-  rest : List Token
-  one : o ≡ read mid front
-  two : next mid ≡ read b rest
+pub record Both (o : Outcome (List Token)) (next : ℕ → Outcome (List Token)) (b : ℕ) : Type 0 where
+  pub mid : ℕ
+  pub front : List Token
+  pub rest : List Token
+  pub one : o ≡ read mid front
+  pub two : next mid ≡ read b rest
 
-both : (o : Outcome (List Token)) (next : ℕ → Outcome (List Token)) → Holds (λ b ts. Both o next b) (follow o next)
+pub both : (o : Outcome (List Token)) (next : ℕ → Outcome (List Token)) → Holds (λ b ts. Both o next b) (follow o next)
 both o next =
     holds-andThen (holds-self o) (λ q us e.
     holds-andThen (holds-self (next q)) (λ c vs g. found (record { mid = q; front = us; rest = vs; one = e; two = g })))

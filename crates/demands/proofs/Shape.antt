@@ -6,7 +6,7 @@ use mathlib.Core.Bool.{cond}
 use mathlib.Core.List.{List, [], _∷_, _++_}
 use Prim.Native.Nat.{ℕ, suc, _+_, _≤_, _<_}
 use lib.ListN.{length, drop}
-use Rattle.descriptor.specs.Tree.{Name, unnamed, named, members, Tree, node, Forest, nil, cons}
+use Rattle.descriptor.specs.Tree.{Name, unnamed, named, empty, items, pairs, text, dimensions, members, Tree, node, Forest, nil, cons}
 use Rattle.descriptor.specs.Outcome.{read}
 use Rattle.descriptor.specs.Answers.{accepted}
 use Rattle.descriptor.specs.Output.{Written, unwritten, given}
@@ -64,6 +64,31 @@ pub data Among (u : Tree) : Forest → Type 0 where
 unfoldable pub countNamed : Name → Forest → ℕ
 countNamed m nil = 0
 countNamed m (cons t f) = cond (sameName m (nameOf t)) (suc (countNamed m f)) (countNamed m f)
+
+-- the top is a cluster
+unfoldable pub IsCluster : Tree → Type 0
+IsCluster (node c empty f m) = ⊥
+IsCluster (node c (items xs) f m) = ⊥
+IsCluster (node c (pairs ps) f m) = ⊥
+IsCluster (node c text f m) = ⊥
+IsCluster (node c (dimensions k) f m) = ⊥
+IsCluster (node c (members k) f m) = Unit {0}
+
+-- "a member's name is missing, empty or an earlier member's": the member t, those before it
+pub data BadName (before : Forest) (t : Tree) : Type 0 where
+  nameless : ¬ NonEmpty (nameOf t) → BadName before t
+  earlier : 1 ≤ countNamed (nameOf t) before → BadName before t
+
+-- the first such member of g, counted from j
+pub data FirstBad : Forest → ℕ → Forest → ℕ → Type 0 where
+  bad : {before : Forest} {j : ℕ} {t : Tree} {g : Forest} → BadName before t → FirstBad before j (cons t g) j
+  later : {before : Forest} {j place : ℕ} {t : Tree} {g : Forest} → ¬ BadName before t → FirstBad (cons t before) (j + 1) g place
+      → FirstBad before j (cons t g) place
+
+-- 40: "reader's top is no cluster, or a member's name is missing, empty or an earlier member's"; the place: "member, or 0"
+pub data ReaderFault : Tree → ℕ → Type 0 where
+  noCluster : {t : Tree} → ¬ IsCluster t → ReaderFault t 0
+  badName : {c k place : ℕ} {g : Forest} {m : Name} → FirstBad nil 0 g place → ReaderFault (node c (members k) g m) place
 
 -- "A reader's member is missing, found once or doubled when none, one, or several (two or more) of the rig's members have its name."
 -- The reader's member is t, the rig's members are f.
