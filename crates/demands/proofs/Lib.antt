@@ -20,4 +20,5 @@ pub mod Resolved
 pub mod Record
 pub mod Faults
 pub mod Back
+pub mod Carried
 pub mod Found
