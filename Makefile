@@ -33,6 +33,14 @@ run: command
 	$(COMMAND) view samples/bath.hex samples/data/bath.hex 3 1
 	$(COMMAND) little samples/rig.hex samples/data/rig.hex
 	$(COMMAND) big samples/rig.hex samples/data/rig-little.hex
+	$(COMMAND) read samples/rig-before.hex samples/reader.hex samples/data/rig-before.hex
+	$(COMMAND) read samples/rig.hex samples/reader.hex samples/data/rig.hex
+	$(COMMAND) read samples/rig.hex samples/reader.hex samples/data/rig-fourteen.hex
+	$(COMMAND) read samples/pulses-first.hex samples/reader.hex samples/data/pulses-first.hex
+	$(COMMAND) read samples/pulses-second.hex samples/reader.hex samples/data/pulses-second.hex
+	$(COMMAND) read samples/rig-reserved.hex samples/reader.hex samples/data/rig.hex
+	$(COMMAND) read samples/rig.hex samples/reader.hex samples/data/rig-cut.hex || [ $$? -eq 1 ]
+	$(COMMAND) read samples/rig.hex samples/reader-signed.hex samples/data/rig.hex || [ $$? -eq 1 ]
 
 test:
 	.ci/run

@@ -1,5 +1,5 @@
 /*
- * Kerbcanopy: reads LabVIEW type descriptors and flattened data. Any bytes may come.
+ * Kerbcanopy: reads LabVIEW type descriptors and flattened data, and hands a record over in a reader's shape. Any bytes may come.
  *
  * Every function takes bytes, or a path's steps, as a pointer and a length, and asks of the caller only what C can't show: that the
  * pointer is not NULL (and that of a path aligned), that as many of them can be read, or in an output written, as the length says, that
@@ -8,7 +8,7 @@
  *
  * Every answer has a number, the input at fault and a place.
  *
- *   input   0 accepted, 1 the first descriptor, 2 the second descriptor, 3 the data, 4 the request
+ *   input   0 accepted, 1 the first or the writer's descriptor, 2 the second or the reader's, 3 the data, 4 the request
  *
  *   number  given when                                                      place
  *        0  accepted                                                        see the function
@@ -35,6 +35,12 @@
  *       30  step out of range, or on a type without parts (input 4)         step number, from 0
  *       31  no single number there: a string, array, cluster, extended      0
  *           or complex number (input 4)
+ *       40  the reader is no cluster, or a member's name is missing,        reader's member, or 0
+ *           empty or an earlier member's (input 2)
+ *       41  the writer is no cluster (input 1)                              0
+ *       42  the writer has no member of this name (input 2)                 reader's member
+ *       43  the writer has several members of this name (input 2)           reader's member
+ *       44  the writer's member of this name is of another type (input 2)   reader's member
  *       50  output too small (input 4)                                      length needed
  *
  * "Start" is the first byte of the descriptor at fault, counted from the first byte lent. For the top descriptor the parent's end is
@@ -45,7 +51,8 @@
  * A piece of the data is one scalar, one whole string with its length word, or the size words of one array. "Piece start" is its first
  * byte, counted from the first byte of the data. A descriptor is judged to its end before its data: 20; then piece by piece 21, 22, 23,
  * 24 (all size words of an array, or the length word of a string, are there, 21, before 22 is judged; a string's characters are looked
- * for after that, 21); last 25. Then comes the path, 30, and what it leads to, 31; and after all of them 50.
+ * for after that, 21); last 25. Then comes the path, 30, and what it leads to, 31; or the reader's members, 40 over all of them, 41,
+ * then 42, 43, 44 member by member; and after all of them 50. "Reader's member" is its number in the reader's cluster, from 0.
  */
 #ifndef KERBCANOPY_H
 #define KERBCANOPY_H
@@ -169,6 +176,23 @@ kc_answer kc_to_little_endian(const uint8_t *descriptor, size_t descriptor_len, 
  */
 kc_answer kc_from_little_endian(const uint8_t *descriptor, size_t descriptor_len, const uint8_t *data, size_t data_len,
                                 uint8_t *out, size_t out_len);
+
+/*
+ * Reads a record in a reader's shape: writes to the front of `out`, joined and in the reader's order, the bytes of the one member of
+ * the writer that has the name and the type of each of the reader's members. `writer` is the descriptor of the data, `reader` that of
+ * what is asked for; both are clusters, and a member stands directly in one, not deeper. Names match by their bytes, and types are
+ * equal as kc_compare has it, names inside them too, reserved bytes apart; the two clusters' own names don't matter. A member's bytes
+ * have its length and size words in them. What else the writer has, and in which order, changes nothing.
+ *
+ * Accepted: number 0, input 0, and the place is the length written; `out` beyond it keeps its bytes. What is written is data under
+ * `reader`, no longer than the data.
+ * Refused: 1 to 12 with input 1 for the writer, which is judged to its end before the reader, or 2 for the reader; 20 to 25 with input
+ * 3; 40 with input 2 where the reader is no cluster of members with distinct names that are not empty; 41 with input 1; 42 to 44 with
+ * input 2 for the first member of the reader that is missing, found twice or more, or of another type; or 50 with input 4 where `out`
+ * is too small, the place being the length needed. Nothing is written.
+ */
+kc_answer kc_read_record(const uint8_t *writer, size_t writer_len, const uint8_t *reader, size_t reader_len,
+                         const uint8_t *data, size_t data_len, uint8_t *out, size_t out_len);
 
 #ifdef __cplusplus
 }

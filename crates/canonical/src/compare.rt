@@ -74,7 +74,7 @@ fn same_bytes(a: &[u8], b: &[u8]) -> bool
 
 // Whether b is a descriptor equal to the accepted descriptor a: as long as a, and the same but for the reserved bytes of a. Nothing is
 // asked of b: bytes that are so are a descriptor with a's tree. The same bytes are equal at once.
-fn same_as_accepted(a: &[u8], b: &[u8]) -> bool
+pub fn same_as_accepted(a: &[u8], b: &[u8]) -> bool
     requires { ⌜ Accepted (now a) ⌝ }
     ensures { λ r. ⌜ r ≡ comparison (now (a .entry)) (now (b .entry)) .equal ⌝ }
 {

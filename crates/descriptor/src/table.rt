@@ -37,7 +37,15 @@ pub fn zero_rows() -> [Row; 256]
 }
 
 // The row of the descriptor at p; what is left of it for a name starts at `at`.
-fn row_at(d: &[u8], depth: usize, p: usize, code: u8, size: usize, count: usize, at: usize) -> Row
+pub fn row_at(
+    d: &[u8],
+    depth: usize,
+    p: usize,
+    code: u8,
+    size: usize,
+    count: usize,
+    at: usize,
+) -> Row
     requires { ⌜ RowPre (now d) depth p size count at ⌝ }
     ensures { λ r. ⌜ r ≡ rowRead (now (d .entry)) depth p code size count at ⌝ }
 {
@@ -65,7 +73,7 @@ fn row_at(d: &[u8], depth: usize, p: usize, code: u8, size: usize, count: usize,
 
 // What stands inside the accepted descriptor at p, which ends at `stop`, with the first byte after its fields: past an enumeration's items
 // and their fill.
-fn shape(d: &[u8], p: usize, stop: usize) -> Inside
+pub fn shape(d: &[u8], p: usize, stop: usize) -> Inside
     requires { ⌜ Stands (now d) p ⌝ }
     requires { ⌜ stop ≡ p + sizeIn (now d) p ⌝ }
     ensures { λ r. ⌜ r ≡ shapeOf (now (d .entry)) p ⌝ }

@@ -82,12 +82,12 @@ module _ (d : List ℕ) where
         (standing-solid t p _ (first .0), row-solid f k _ r (standing-ends d p _ t (first .0) .within) (first .1))
 
 -- what was read
-type-read : (o : Outcome Tree) → isRead o ≡ true → o ≡ read (nextOf o) (typeOf o)
+pub type-read : (o : Outcome Tree) → isRead o ≡ true → o ≡ read (nextOf o) (typeOf o)
 unfolding isRead nextOf typeOf
 type-read (refused number place) e = impossible e
 type-read (read next t) e = refl
 
-row-read : (o : Outcome Forest) → isRead o ≡ true → o ≡ read (nextOf o) (forestOf o)
+pub row-read : (o : Outcome Forest) → isRead o ≡ true → o ≡ read (nextOf o) (forestOf o)
 unfolding isRead nextOf forestOf
 row-read (refused number place) e = impossible e
 row-read (read next f) e = refl

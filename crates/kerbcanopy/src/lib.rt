@@ -14,6 +14,7 @@ ghost use Rattle.flattened.specs.Answers.{dataCheck};
 ghost use Rattle.access.specs.Path.{located};
 ghost use Rattle.access.specs.Values.{readValue, valueKind, valueBits};
 ghost use Rattle.byteorder.specs.Reversal.{toLittleEndian, fromLittleEndian};
+ghost use Rattle.resolution.specs.Record.{resolved};
 
 // Reads any bytes as a descriptor. Accepted: number 0, input 0, the place is the row count, and the table has a row for each descriptor
 // in order of first byte, zero rows after them. Refused: the number 1 to 12 that comes first in document 01's order, input 1, the place
@@ -112,4 +113,25 @@ pub extern "C" fn kc_from_little_endian(descriptor: &[u8], data: &[u8], out: &mu
     ensures wrote { λ _. ⌜ now (out .exit) ≡ fromLittleEndian (now (descriptor .entry)) (now («data» .entry)) (now (out .entry)) .out ⌝ }
 {
     byteorder::little::from_little_endian(descriptor, data, out)
+}
+
+// Reads the rig's data in the reader's shape: writes "the reader's members' bytes joined, in the reader's order" to the front of `out`, and
+// keeps the bytes of `out` beyond them. `writer` is the rig's descriptor and `data` its record, `reader` the reader's descriptor. Accepted:
+// number 0, input 0, and the place is the length written. Refused, in this order: the rig's descriptor with 1 to 12 and input 1, the
+// reader's with input 2, the data as by the data check with input 3; 40 with input 2 where the reader's top is no cluster, place 0, or a
+// member's name is missing, empty or an earlier member's, the place being the member; 41 with input 1 and place 0 where the rig's top is no
+// cluster; for the first reader's member at fault, with input 2 and the member as the place, 42 where the rig has none of its name, 43 where
+// it has several, 44 where it has one of another type; 50 with input 4 where `out` is too small, the place being the length needed. A
+// refusal writes nothing.
+#[no_mangle]
+pub extern "C" fn kc_read_record(
+    writer: &[u8],
+    reader: &[u8],
+    data: &[u8],
+    out: &mut [u8],
+) -> Answer
+    ensures answer { λ r. ⌜ r ≡ resolved (now (writer .entry)) (now (reader .entry)) (now («data» .entry)) (now (out .entry)) .answer ⌝ }
+    ensures wrote { λ _. ⌜ now (out .exit) ≡ resolved (now (writer .entry)) (now (reader .entry)) (now («data» .entry)) (now (out .entry)) .out ⌝ }
+{
+    resolution::reading::read_record(writer, reader, data, out)
 }

@@ -1,4 +1,15 @@
 // A record in a reader's shape.
+pub mod columns;
+pub mod data;
+pub mod equality;
+pub mod joining;
+pub mod names;
+pub mod namesakes;
+pub mod picking;
+pub mod reading;
+pub mod rows;
+pub mod top;
+
 use descriptor::answer::Row;
 
 // What the search for a name among the rig's members finds: "missing, doubled, found with its row".

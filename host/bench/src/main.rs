@@ -4,9 +4,11 @@
 
 mod about_data;
 mod about_descriptors;
+mod about_records;
 mod descriptors;
 mod questions;
 mod records;
+mod shapes;
 mod table;
 mod timing;
 mod variants;
@@ -15,5 +17,6 @@ fn main() {
     table::print_head();
     about_descriptors::print();
     about_data::print();
+    about_records::print();
     table::print_foot();
 }

@@ -123,6 +123,34 @@ pub fn read_values(descriptor: &[u8], data: &[u8], paths: &[[u32; 1]]) -> Times 
     )
 }
 
+pub fn read_record(writer: &[u8], reader: &[u8], data: &[u8]) -> Times {
+    let (mut first, mut second) = (vec![0; OUT], vec![0; OUT]);
+    let proved = kerbcanopy::read_record(writer, reader, data, &mut first);
+    agree(
+        proved,
+        reference::read_record(writer, reader, data, &mut second),
+    );
+    assert_eq!(first, second);
+    best_of_both(
+        || {
+            black_box(kerbcanopy::read_record(
+                black_box(writer),
+                black_box(reader),
+                black_box(data),
+                black_box(&mut first),
+            ));
+        },
+        || {
+            black_box(reference::read_record(
+                black_box(writer),
+                black_box(reader),
+                black_box(data),
+                black_box(&mut second),
+            ));
+        },
+    )
+}
+
 /// A plain copy of the bytes, the floor for whatever reads them all.
 pub fn copy(bytes: &[u8]) -> f64 {
     let mut out = vec![0; OUT];

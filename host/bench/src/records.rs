@@ -138,37 +138,53 @@ fn nested() -> Record {
     Record::new(what, array("", outer), data, Fault::High)
 }
 
-/// A record of 14 members as a bath rig sends it.
-fn rig() -> Record {
-    let amperes = ["anode", "cathode", "return"].map(|name| number(0x09, name));
-    let members = [
+/// A member's descriptor and its data.
+pub type Member = (Vec<u8>, Vec<u8>);
+
+/// The 14 members that a bath rig sends, these pulses among them.
+pub fn rig_members(pulses: Member) -> Vec<Member> {
+    let amperes = ["anode", "cathode", "return"];
+    let amperes = amperes.map(|name| (number(0x09, name), vec![0x40; 4]));
+    [
         &[
-            number(0x07, "identifier"),
-            text("operator"),
-            states("state"),
+            (number(0x07, "identifier"), vec![0, 0, 0, 9]),
+            (text("operator"), characters(9)),
+            (states("state"), vec![0, 1]),
+            (number(0x0A, "temperature"), double(170)),
+            (number(0x0A, "current"), double(29)),
         ][..],
-        &[number(0x0A, "temperature"), number(0x0A, "current")],
         &amperes,
         &[
-            number(0x02, "rack"),
-            number(0x06, "slot"),
-            number(0x04, "started"),
+            (number(0x02, "rack"), vec![0; 2]),
+            (number(0x06, "slot"), vec![0; 2]),
+            (number(0x04, "started"), vec![0; 8]),
+            pulses,
+            (number(0x21, "rinsed"), vec![1]),
+            (number(0x21, "finished"), vec![0]),
         ],
-        &[array("pulses", number(0x07, "")), number(0x21, "rinsed")],
-        &[number(0x21, "finished")],
-    ];
+    ]
+    .concat()
+}
+
+/// A few pulses.
+pub fn pulses() -> Member {
     let words = elements(4, |index| vec![0, 0, 1, index as u8]);
-    let data = [
-        vec![0, 0, 0, 9],
-        characters(9),
-        vec![0, 1],
-        double(170),
-        double(29),
-        vec![0x40; 12],
-        vec![0; 12],
-        words,
-        vec![1, 0],
-    ];
-    let descriptor = cluster("blank", &members.concat());
-    Record::new("14-member record", descriptor, data.concat(), Fault::High)
+    (array("pulses", number(0x07, "")), words)
+}
+
+/// As many doubles in place of the pulses.
+pub fn pulse_times(count: usize) -> Member {
+    (array("pulses", number(0x0A, "")), elements(count, double))
+}
+
+/// The cluster of these members and their data.
+pub fn joined(name: &str, members: &[Member]) -> (Vec<u8>, Vec<u8>) {
+    let (descriptors, data): (Vec<_>, Vec<_>) = members.iter().cloned().unzip();
+    (cluster(name, &descriptors), data.concat())
+}
+
+/// A record of 14 members as a bath rig sends it.
+fn rig() -> Record {
+    let (descriptor, data) = joined("blank", &rig_members(pulses()));
+    Record::new("14-member record", descriptor, data, Fault::High)
 }

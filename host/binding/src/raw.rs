@@ -115,4 +115,14 @@ unsafe extern "C" {
         out: *mut u8,
         out_len: usize,
     ) -> Answer;
+    pub(crate) fn kc_read_record(
+        writer: *const u8,
+        writer_len: usize,
+        reader: *const u8,
+        reader_len: usize,
+        data: *const u8,
+        data_len: usize,
+        out: *mut u8,
+        out_len: usize,
+    ) -> Answer;
 }

@@ -4,7 +4,7 @@ use std::ffi::{OsStr, OsString};
 use std::path::PathBuf;
 
 use crate::data::Inputs;
-use crate::{Outcome, descriptor};
+use crate::{Outcome, descriptor, record};
 
 pub const USAGE: &str = "usage: kerbcanopy check FILE
        kerbcanopy compare FILE FILE
@@ -14,6 +14,7 @@ pub const USAGE: &str = "usage: kerbcanopy check FILE
        kerbcanopy view DESCRIPTOR DATA STEP..
        kerbcanopy little DESCRIPTOR DATA [-o OUT]
        kerbcanopy big DESCRIPTOR DATA [-o OUT]
+       kerbcanopy read WRITER READER DATA [-o OUT]
   check     lists the descriptor's types, or says why it is none
   compare   says whether two descriptors are equal, reserved bytes apart
   normal    gives the descriptor with every reserved byte zero: as text, or
@@ -24,6 +25,8 @@ pub const USAGE: &str = "usage: kerbcanopy check FILE
   view      gives the bytes that the steps lead to
   little    gives the data's little-endian form: as text, or to the file OUT
   big       gives the data whose little-endian form is read
+  read      gives the members that the reader's descriptor asks for, by name and
+            type, out of data under the writer's: as text, or to the file OUT
 A step is a member's number in a cluster or an element's in an array, from 0.
 A file holds raw bytes, or, where its name ends in .hex, hexadecimal text with
 spaces and # comments.
@@ -37,6 +40,8 @@ pub enum Command {
     Normal(PathBuf, Option<PathBuf>),
     /// A question about data, with the descriptor's file and the data's.
     Data(Question, PathBuf, PathBuf),
+    /// The writer's descriptor, the reader's, the data and the output.
+    Read([PathBuf; 3], Option<PathBuf>),
 }
 
 #[derive(Debug, PartialEq, Eq)]
@@ -68,6 +73,11 @@ impl Command {
                 question.map(|question| Command::Data(question, descriptor.into(), data.into()))
             }
             (Some("data" | "value" | "view" | "little" | "big"), _) => None,
+            (Some("read"), [writer, reader, data, rest @ ..]) => {
+                let paths = [writer, reader, data].map(PathBuf::from);
+                out(rest).map(|out| Command::Read(paths, out))
+            }
+            (Some("read"), _) => None,
             _ => return Err(format!("unknown command {}", name.display())),
         };
         read.ok_or(format!("{}: wrong arguments", name.display()))
@@ -89,6 +99,7 @@ impl Command {
                     Question::Big(out) => inputs.big(out.as_deref()),
                 }
             }
+            Command::Read(paths, out) => record::read(paths, out.as_deref()),
         }
     }
 }
@@ -173,6 +184,19 @@ mod tests {
     }
 
     #[test]
+    fn a_record_is_read_from_three_files() {
+        let paths = || ["a", "b", "c"].map(PathBuf::from);
+        assert_eq!(
+            read(&["read", "a", "b", "c"]),
+            Ok(Command::Read(paths(), None))
+        );
+        assert_eq!(
+            read(&["read", "a", "b", "c", "-o", "d"]),
+            Ok(Command::Read(paths(), Some("d".into())))
+        );
+    }
+
+    #[test]
     fn a_wrong_use_is_named() {
         assert_eq!(read(&[]), Err("no command".into()));
         assert_eq!(read(&["look", "a"]), Err("unknown command look".into()));
@@ -189,6 +213,9 @@ mod tests {
             &["view"],
             &["little", "a", "b", "-o"],
             &["big", "a", "b", "c"],
+            &["read", "a", "b"],
+            &["read", "a", "b", "c", "d"],
+            &["read", "a", "b", "c", "-o"],
         ] {
             assert_eq!(read(words), Err(format!("{}: wrong arguments", words[0])));
         }

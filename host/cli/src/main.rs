@@ -11,6 +11,7 @@ mod descriptor;
 mod file;
 mod hexadecimal;
 mod listing;
+mod record;
 mod refusal;
 mod value;
 mod words;

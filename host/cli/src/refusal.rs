@@ -1,37 +1,50 @@
 //! A refusal in plain words: the number, what it means, the input, the place
-//! and the bytes or steps around it.
+//! and the bytes or steps around it, or the member there.
 
 use std::path::Path;
 
-use kerbcanopy::Answer;
+use kerbcanopy::{Answer, Row};
+
+use crate::words::{kind, name};
 
 /// How many bytes are shown on either side of the place.
 const AROUND: usize = 8;
 
 /// The lines that say what was refused in the file.
 pub fn text(path: &Path, bytes: &[u8], answer: Answer) -> String {
-    format!(
-        "{}: refused with {}: {}\n  input {}, place {}: {}\n",
-        path.display(),
-        answer.number,
-        meaning(answer.number),
-        answer.input,
-        answer.place,
-        around(bytes, answer.place as usize),
-    )
+    lines(path, answer, &around(bytes, answer.place as usize))
 }
 
 /// The lines that say what was refused in the request about the file: 30 with
 /// the steps, that of the place in brackets, or 31.
 pub fn of_request(path: &Path, steps: &[u32], answer: Answer) -> String {
+    lines(path, answer, &marked(steps, answer))
+}
+
+/// The lines that say what was refused in an accepted descriptor for what it is
+/// asked to be: 41 with the type of the whole, or 40 and 42 to 44 with that of the
+/// member whose number is the place.
+pub fn of_type(path: &Path, descriptor: &[u8], answer: Answer) -> String {
+    let rows = kerbcanopy::check_descriptor(descriptor).rows;
+    let inside_top = |row: &&Row| row.depth == 2;
+    let member = match rows[0].code {
+        0x50 => rows.iter().filter(inside_top).nth(answer.place as usize),
+        _ => None,
+    };
+    let row = member.unwrap_or(&rows[0]);
+    let words = format!("{}{}", kind(row), name(descriptor, row));
+    lines(path, answer, &words)
+}
+
+/// The number, what it means, the input and the place, with what stands there.
+fn lines(path: &Path, answer: Answer, there: &str) -> String {
     format!(
-        "{}: refused with {}: {}\n  input {}, place {}: {}\n",
+        "{}: refused with {}: {}\n  input {}, place {}: {there}\n",
         path.display(),
         answer.number,
         meaning(answer.number),
         answer.input,
         answer.place,
-        marked(steps, answer),
     )
 }
 
@@ -60,6 +73,14 @@ fn meaning(number: u32) -> &'static str {
         25 => "bytes are left over",
         30 => "the step leads nowhere: there is no such member or element",
         31 => "there is no single number: a string, array, cluster, extended or complex number",
+        40 => {
+            "the reader is no cluster, or this member's name is missing, empty \
+             or an earlier member's"
+        }
+        41 => "the writer is no cluster",
+        42 => "the writer has no member of this name",
+        43 => "the writer has several members of this name",
+        44 => "the writer's member of this name is of another type",
         50 => "the output is too small",
         _ => "a number that this command does not know",
     }
@@ -108,12 +129,12 @@ mod tests {
 
     #[test]
     fn every_number_has_words_of_its_own() {
-        let numbers = (1..=12).chain(20..=25).chain([30, 31, 50]);
+        let numbers = (1..=12).chain(20..=25).chain([30, 31, 50]).chain(40..=44);
         let mut meanings: Vec<_> = numbers.map(meaning).collect();
         assert!(!meanings.contains(&meaning(0)));
         meanings.sort();
         meanings.dedup();
-        assert_eq!(meanings.len(), 21);
+        assert_eq!(meanings.len(), 26);
     }
 
     #[test]
@@ -153,5 +174,40 @@ mod tests {
 ";
         let bytes = [0, 5, 0, 3, 0];
         assert_eq!(text(Path::new("reader.hex"), &bytes, answer), expected);
+    }
+
+    #[test]
+    fn a_member_is_named_with_its_type() {
+        let reader = b"\x00\x14\x00\x50\x00\x02\x00\x06\x00\x02\x01t\x00\x08\x00\x07\x02id\x00";
+        let words = |number, place| {
+            let answer = Answer {
+                number,
+                input: 2,
+                place,
+            };
+            let text = of_type(Path::new("reader.hex"), reader, answer);
+            let last = text.lines().last().unwrap_or_default();
+            last.to_string()
+        };
+        let first = "  input 2, place 0: signed 16-bit integer \"t\"";
+        assert_eq!(words(42, 0), first);
+        let second = "  input 2, place 1: unsigned 32-bit integer \"id\"";
+        assert_eq!(words(44, 1), second);
+    }
+
+    #[test]
+    fn what_is_no_cluster_is_named_as_a_whole() {
+        let answer = Answer {
+            number: 41,
+            input: 1,
+            place: 0,
+        };
+        let expected = "rig.hex: refused with 41: the writer is no cluster
+  input 1, place 0: signed 32-bit integer
+";
+        assert_eq!(
+            of_type(Path::new("rig.hex"), &[0, 4, 0, 3], answer),
+            expected
+        );
     }
 }

@@ -134,7 +134,7 @@ fn trouble_with_a_file_is_2() {
 
 #[test]
 fn a_wrong_use_is_2_and_shows_the_right_one() {
-    let cases: [&[&str]; 7] = [
+    let cases: [&[&str]; 8] = [
         &[],
         &["look"],
         &["check"],
@@ -142,6 +142,7 @@ fn a_wrong_use_is_2_and_shows_the_right_one() {
         &["data", "a"],
         &["value", "a", "b", "c"],
         &["little", "a", "b", "-o"],
+        &["read", "a", "b"],
     ];
     for arguments in cases {
         let (status, answer, trouble) = run(arguments);

@@ -1,21 +1,23 @@
-//! The cases of a seed by their numbers: first the limits of descriptors and of
-//! data, then what chance brings.
+//! The cases of a seed by their numbers: first the limits of descriptors, of
+//! records and of data, then what chance brings.
 
 use crate::difference::Held;
 use crate::random::Random;
 use crate::tally::Tally;
-use crate::{data, descriptor};
+use crate::{data, descriptor, record};
 
-/// A case about descriptors or about data.
+/// A case about descriptors, data or a record in a reader's shape.
 pub enum Case {
     Descriptor(descriptor::case::Case),
     Data(data::case::Case),
+    Record(record::case::Case),
 }
 
 /// The cases that every seed starts with.
 pub struct Limits {
     descriptors: Vec<descriptor::limits::Limit>,
     data: Vec<data::limits::Limit>,
+    records: Vec<record::limits::Limit>,
 }
 
 impl Limits {
@@ -23,6 +25,7 @@ impl Limits {
         Limits {
             descriptors: descriptor::limits::all(),
             data: data::limits::all(),
+            records: record::limits::all(),
         }
     }
 }
@@ -34,12 +37,18 @@ impl Case {
         if let Some(limit) = limits.descriptors.get(number) {
             return Case::Descriptor(descriptor::case::Case::of_limit(limit, random));
         }
-        if let Some(limit) = limits.data.get(number - limits.descriptors.len()) {
+        let number = number - limits.descriptors.len();
+        if let Some(limit) = limits.records.get(number) {
+            return Case::Record(record::case::Case::of_limit(limit));
+        }
+        let number = number - limits.records.len();
+        if let Some(limit) = limits.data.get(number) {
             return Case::Data(data::case::Case::of_limit(limit, random));
         }
-        match random.once_in(2) {
-            true => Case::Descriptor(descriptor::case::Case::any(random)),
-            false => Case::Data(data::case::Case::any(random)),
+        match random.below(5) {
+            0..2 => Case::Descriptor(descriptor::case::Case::any(random)),
+            2..4 => Case::Data(data::case::Case::any(random)),
+            _ => Case::Record(record::case::Case::any(random)),
         }
     }
 
@@ -47,6 +56,7 @@ impl Case {
         match self {
             Case::Descriptor(case) => &case.what,
             Case::Data(case) => &case.what,
+            Case::Record(case) => &case.what,
         }
     }
 
@@ -55,6 +65,7 @@ impl Case {
         match self {
             Case::Descriptor(case) => descriptor::hold::hold(case, random, exact, tally),
             Case::Data(case) => data::hold::hold(case, random, exact, tally),
+            Case::Record(case) => record::hold::hold(case, random, exact, tally),
         }
     }
 }

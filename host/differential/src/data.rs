@@ -1,12 +1,11 @@
 //! The questions about data: cases, and the two held against each other over
 //! each.
 
-mod answers;
 mod ask;
-mod both;
+pub mod both;
 pub mod case;
-mod damage;
-mod fill;
+pub mod damage;
+pub mod fill;
 mod form;
 pub mod hold;
 pub mod limits;

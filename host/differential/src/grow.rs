@@ -66,6 +66,18 @@ pub fn for_data(random: &mut Random) -> Tree {
     grow(random, 1, &mut room, false)
 }
 
+/// Trees that can be the members of one cluster, with room left for names.
+pub fn for_record(random: &mut Random) -> Vec<Tree> {
+    let mut room = Room {
+        rows: random.pick(&[1, 2, 4, 4, 8, 8, 16, 40, 200]),
+        bytes: random.pick(&[60, 200, 200, 600, 2000]),
+        depth: 8,
+        lawless: false,
+        style: random.pick(&[Style::Usual, Style::Lean, Style::Rich]),
+    };
+    members(random, 1, &mut room)
+}
+
 /// A tree that may have too many rows or bytes, or be too deep, or break rules
 /// inside its bodies.
 pub fn wild(random: &mut Random) -> Tree {
@@ -122,6 +134,11 @@ fn cluster(random: &mut Random, depth: usize, room: &mut Room) -> Body {
     if room.lawless && random.once_in(40) {
         return Body::Cluster(Vec::new());
     }
+    Body::Cluster(members(random, depth, room))
+}
+
+/// At least one, for which the room must have a row and a header's bytes.
+fn members(random: &mut Random, depth: usize, room: &mut Room) -> Vec<Tree> {
     let most = match depth {
         1 if room.rows > 30 => 300,
         _ => random.pick(&[1, 2, 3, 5, 9, 300]),
@@ -130,7 +147,7 @@ fn cluster(random: &mut Random, depth: usize, room: &mut Room) -> Body {
     while members.len() < most && room.holds_child(depth, 0) {
         members.push(grow(random, depth + 1, room, false));
     }
-    Body::Cluster(members)
+    members
 }
 
 fn array(random: &mut Random, depth: usize, room: &mut Room) -> Body {

@@ -13,10 +13,15 @@ pub enum Kind {
     DamagedData,
     StrayData,
     Misread,
+    RecordLimit,
+    Record,
+    Agreeing,
+    DamagedRecord,
+    NoRecord,
 }
 
 /// Every kind with the words for it, in the order of the enum.
-pub const KINDS: [(Kind, &str); 11] = [
+pub const KINDS: [(Kind, &str); 16] = [
     (Kind::Limit, "limits of descriptors and their neighbours"),
     (Kind::Tree, "well-formed trees"),
     (Kind::Damaged, "damaged trees"),
@@ -28,6 +33,11 @@ pub const KINDS: [(Kind, &str); 11] = [
     (Kind::DamagedData, "damaged data"),
     (Kind::StrayData, "random bytes as data"),
     (Kind::Misread, "data under another or no descriptor"),
+    (Kind::RecordLimit, "limits of records and their neighbours"),
+    (Kind::Record, "records for readers made from their writers"),
+    (Kind::Agreeing, "records that agree on a reader's members"),
+    (Kind::DamagedRecord, "damaged records"),
+    (Kind::NoRecord, "writers and readers that are no clusters"),
 ];
 
 impl Kind {

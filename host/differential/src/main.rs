@@ -2,6 +2,7 @@
 //! arguments it is the gate run: fixed seeds, then a fresh one.
 #![forbid(unsafe_code)]
 
+mod answers;
 mod case;
 mod data;
 mod descriptor;
@@ -10,7 +11,9 @@ mod grow;
 mod kind;
 mod lent;
 mod options;
+mod output;
 mod random;
+mod record;
 mod tally;
 mod tree;
 

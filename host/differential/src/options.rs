@@ -15,9 +15,9 @@ pub const USAGE: &str = "usage: differential [--exact] [--cases N] [--seed S] [-
 /// The seeds that every gate run takes.
 const FIXED_SEEDS: [u64; 4] = [1, 2, 3, 4];
 /// Cases of each seed in the gate run.
-const GATE_CASES: u64 = 240_000;
+const GATE_CASES: u64 = 300_000;
 /// The same when a memory checker looks on, which takes one fixed seed.
-const EXACT_CASES: u64 = 9_000;
+const EXACT_CASES: u64 = 9_400;
 
 pub struct Options {
     pub seeds: Vec<u64>,

@@ -5,8 +5,9 @@ use reference::{Answer, Compared};
 use crate::kind::{KINDS, Kind};
 
 /// Every number that the questions can answer.
-const NUMBERS: [u32; 22] = [
-    0, 1, 2, 3, 4, 5, 6, 7, 8, 9, 10, 11, 12, 20, 21, 22, 23, 24, 25, 30, 31, 50,
+const NUMBERS: [u32; 27] = [
+    0, 1, 2, 3, 4, 5, 6, 7, 8, 9, 10, 11, 12, 20, 21, 22, 23, 24, 25, 30, 31, 40, 41, 42, 43, 44,
+    50,
 ];
 
 #[derive(Default)]

@@ -3,12 +3,12 @@
 
 use reference::{Answer, MOST_DATA};
 
-use super::answers::accepted;
 use super::ask::{self, Ask};
 use super::both::Both;
 use super::damage::damage;
 use super::fill::{self, Flattened};
 use super::limits::Limit;
+use crate::answers::accepted;
 use crate::descriptor::damage::damage as damage_descriptor;
 use crate::grow;
 use crate::kind::Kind;

@@ -3,9 +3,9 @@
 
 use reference::{Answer, MOST_DATA};
 
-use super::answers::{accepted, refused};
 use super::both::Both;
 use super::fill::{Flattened, Of, Piece};
+use crate::answers::{accepted, refused};
 use crate::random::Random;
 
 /// Lengths and sizes that are seldom right.

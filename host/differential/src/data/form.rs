@@ -3,15 +3,13 @@
 
 use reference::Answer;
 
-use super::answers::{accepted, demand_same, request};
 use super::case::Case;
-use crate::difference::{Held, demand, demand_guarded, outputs, plain};
+use crate::answers::demand_same;
+use crate::difference::{Held, demand_guarded};
 use crate::lent::{Around, Lent};
+use crate::output::{Room, in_room, rooms};
 use crate::random::Random;
 use crate::tally::Tally;
-
-/// Data longer than this is not written into every room.
-const LONG: usize = 4096;
 
 /// One of the two questions, as each implementation answers it.
 struct Form {
@@ -79,16 +77,6 @@ pub fn hold(
     FROM_LITTLE_ENDIAN.hold_in(&wrong_way, &[big.len()], random, tally)
 }
 
-/// Room for exactly this length, one less, one more, none and plenty.
-fn rooms(random: &mut Random, length: usize) -> Vec<usize> {
-    let large = length + random.between(2, 500);
-    let mut rooms = vec![length, length.saturating_sub(1), length + 1, 0, large];
-    if length > LONG {
-        rooms.truncate(3);
-    }
-    rooms
-}
-
 impl Form {
     fn hold_in(
         &self,
@@ -106,39 +94,30 @@ impl Form {
     }
 
     /// Both write into rooms of one length, filled with the same byte.
-    fn hold(&self, asked: &Asked, room: usize, fill: u8) -> Held<Answer> {
-        let question = format!("{}, room {room}", self.name);
+    fn hold(&self, asked: &Asked, length: usize, fill: u8) -> Held<Answer> {
+        let question = format!("{}, room {length}", self.name);
         let [descriptor, data] = [asked.descriptor.bytes(), asked.data.bytes()];
-        let mut proved = Lent::room(room, fill, asked.around);
-        let mut other = vec![fill; room];
-        let answer = plain((self.proved)(descriptor, data, proved.bytes_mut()));
-        demand_same(
-            answer,
-            (self.other)(descriptor, data, &mut other),
+        let room = Room {
+            length,
+            fill,
+            around: asked.around,
+        };
+        let output = room.hold(
             &question,
+            |out| (self.proved)(descriptor, data, out),
+            |out| (self.other)(descriptor, data, out),
         )?;
-        let texts = || outputs(proved.bytes(), &other);
-        demand(proved.bytes() == other, &question, texts)?;
-        let length = data.len();
-        let written = if answer.number == 0 { length } else { 0 };
-        demand_guarded(proved.untouched_beyond(written), &question)?;
         let question = format!("{question}, against what is known");
         if let Some(checked) = asked.checked {
-            demand_same(answer, in_room(checked, length, room), &question)?;
+            let stated = in_room(checked, data.len(), length);
+            demand_same(output.answer, stated, &question)?;
         }
-        if let (0, Some(stated)) = (answer.number, asked.written) {
-            let texts = || outputs(&proved.bytes()[..written], stated);
-            demand(proved.bytes()[..written] == *stated, &question, texts)?;
+        match asked.written {
+            Some(stated) if output.answer.number == 0 => {
+                output.demand_written(stated, &question)?
+            }
+            _ => {}
         }
-        Ok(answer)
-    }
-}
-
-/// The answer that follows from the check's and the room.
-fn in_room(checked: Answer, length: usize, room: usize) -> Answer {
-    match checked.number {
-        0 if room < length => request(50, length as u32),
-        0 => accepted(length),
-        _ => checked,
+        Ok(output.answer)
     }
 }

@@ -6,10 +6,10 @@ use std::fmt::Debug;
 
 use reference::Answer;
 
-use super::answers::{accepted, demand_same, request};
 use super::ask::{Ask, Found};
 use super::case::Case;
 use super::form;
+use crate::answers::{accepted, demand_same, request};
 use crate::difference::{Held, demand, demand_guarded, plain};
 use crate::lent::{Around, Lent};
 use crate::random::Random;

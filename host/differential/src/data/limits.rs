@@ -13,11 +13,11 @@ mod strings;
 
 use reference::Answer;
 
-use super::answers::{accepted, refused};
 use super::ask::{Ask, Found};
 use super::both::Both;
 use super::fill::{self, Flattened};
 use super::scalar::Value;
+use crate::answers::{accepted, refused};
 use crate::random::Random;
 use crate::tree::{Body, Tree};
 

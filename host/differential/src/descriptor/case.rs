@@ -90,7 +90,7 @@ fn unknown(bytes: Vec<u8>) -> Partner {
 }
 
 /// A tree's bytes with reserved bytes of zero, of one value or of many.
-fn encode(random: &mut Random, tree: &Tree) -> Encoded {
+pub fn encode(random: &mut Random, tree: &Tree) -> Encoded {
     match random.below(4) {
         0 => tree.normal_form(),
         1 => {

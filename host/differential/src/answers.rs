@@ -21,6 +21,15 @@ pub fn refused(number: u32, place: usize) -> Answer {
     }
 }
 
+/// A refusal of the reader's descriptor.
+pub fn reader(number: u32, place: usize) -> Answer {
+    Answer {
+        number,
+        input: 2,
+        place: place as u32,
+    }
+}
+
 /// A refusal of the request.
 pub fn request(number: u32, place: u32) -> Answer {
     Answer {

@@ -1,0 +1,14 @@
+pub mod Filled
+pub mod InRow
+pub mod Walking
+pub mod Single
+pub mod Listing
+pub mod Named
+pub mod Apart
+pub mod Seeking
+pub mod Chosen
+pub mod Planned
+pub mod Topmost
+pub mod Joined
+pub mod Gathered
+pub mod Answering

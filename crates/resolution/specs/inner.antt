@@ -1,0 +1,6 @@
+pub mod Members
+pub mod Names
+pub mod Searching
+pub mod Picking
+pub mod Tops
+pub mod Ready

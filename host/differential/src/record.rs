@@ -1,0 +1,9 @@
+//! The question about a record in a reader's shape: cases, and the two held
+//! against each other over each.
+
+pub mod case;
+pub mod hold;
+pub mod limits;
+mod rig;
+mod stated;
+mod wanted;
