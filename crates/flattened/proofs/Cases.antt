@@ -68,7 +68,7 @@ rest-varies c (dimensions k) f m e s h = refl
 rest-varies c (members k) f m e s h = absurd (h refl)
 
 -- a string's
-text-around : (c : ℕ) (b : Fields) (f : Forest) (m : Name) → fieldsKind b ≡ string → extentOf (node c b f m) ≡ Around 0 0 1
+text-around : (c : ℕ) (b : Fields) (f : Forest) (m : Name) → fieldsKind b ≡ string → extentOf (node c b f m) ≡ Around 0 0 1 false
 unfolding fieldsKind extentOf extentFields
 text-around c empty f m e = cc
 text-around c (items xs) f m e = cc
@@ -82,7 +82,7 @@ module _ (d : List ℕ) (p : ℕ) (here : Stands d p) where
   it = type-made d p here
 
   -- the rule of the fields, by the code that was read
-  ruled : typeRule (typeAt d p) ≡ ruleOf (codeIn d p) (it .fields)
+  pub ruled : typeRule (typeAt d p) ≡ ruleOf (codeIn d p) (it .fields)
   unfolding typeRule
   ruled = ap typeRule (it .tree) ∙ ap (λ (c : ℕ). ruleOf c (it .fields)) (it .coded)
 
@@ -134,7 +134,7 @@ module _ (d : List ℕ) (p : ℕ) (here : Stands d p) where
     rule-narrow = ⊎-elim (λ e. enumeration-narrow (codeIn d p) (sym e)) (λ e. boolean-narrow (codeIn d p) e) which
 
   -- a code without a width is none's
-  not-measured : widthOf (codeIn d p) ≡ 0 → isMeasured (fieldsKind (it .fields)) ≡ false
+  pub not-measured : widthOf (codeIn d p) ≡ 0 → isMeasured (fieldsKind (it .fields)) ≡ false
   not-measured e = go (isMeasured (kindOf (codeIn d p))) refl
     where
       go : (b : Bool) → isMeasured (kindOf (codeIn d p)) ≡ b → isMeasured (fieldsKind (it .fields)) ≡ false
@@ -145,7 +145,7 @@ module _ (d : List ℕ) (p : ℕ) (here : Stands d p) where
   pub is-cluster : widthOf (codeIn d p) ≡ 0 → (string ≡ kindOf (codeIn d p) → ⊥) → (array ≡ kindOf (codeIn d p) → ⊥) → cluster ≡ kindOf (codeIn d p)
   is-cluster e s a = rest-members (it .fields) (not-measured e) (λ h. s (h ∙ it .kind)) (λ h. a (h ∙ it .kind)) ∙ it .kind
 
-  pub extent-text : string ≡ kindOf (codeIn d p) → Around 0 0 1 ≡ extentOf (typeAt d p)
+  pub extent-text : string ≡ kindOf (codeIn d p) → Around 0 0 1 false ≡ extentOf (typeAt d p)
   extent-text k = sym (ap extentOf (it .tree) ∙ text-around (it .code) (it .fields) (it .inner) (it .name) (it .kind ∙ sym k))
 
   pub extent-other : widthOf (codeIn d p) ≡ 0 → (string ≡ kindOf (codeIn d p) → ⊥) → (cluster ≡ kindOf (codeIn d p) → ⊥) → Varies ≡ extentOf (typeAt d p)
@@ -162,7 +162,7 @@ module _ (d : List ℕ) (p : ℕ) (here : Stands d p) where
     counted-inside = ap (λ (x : Inside). x .count) (read ∙ it .inside)
 
     module _ (has : hasInside (kindOf (codeIn d p)) ≡ true) where
-      start : i .at ≡ insideAt p (it .fields)
+      pub start : i .at ≡ insideAt p (it .fields)
       start = ap (λ (x : Inside). x .at) (read ∙ it .inside) ∙ start-same p (it .fields) (ap hasInside (it .kind) ∙ has)
 
       pub types-inside : typesAt d (i .children) (i .at) ≡ it .inner

@@ -28,7 +28,7 @@ pub record Few (least w k size : ℕ) : Type 0 where
 unfoldable pub Small : ℕ → Extent → ℕ → Type 0
 Small n Varies size = Unit {0}
 Small n (Fixed w k j) size = Few n w k size
-Small n (Around b a k) size = Few n (b + 4 + a) k size
+Small n (Around b a k j) size = Few n (b + 4 + a) k size
 
 small-joint : (a b : ℕ) (x y : Extent) (m n : ℕ) → Small a x m → Small b y n → Small (a + b) (joint x y) (m + n)
 unfolding Small joint
@@ -36,14 +36,12 @@ small-joint a b Varies y m n h l = tt
 small-joint a b (Fixed w k j) Varies m n h l = tt
 small-joint a b (Fixed w k j) (Fixed v i g) m n h l =
     record { bytes = omega (arith, h .bytes, l .bytes); tokens = omega (arith, h .tokens, l .tokens); many = omega (arith, h .many, l .many) }
-small-joint a b (Fixed w k true) (Around v u i) m n h l = tt
-small-joint a b (Fixed w k false) (Around v u i) m n h l =
+small-joint a b (Fixed w k j) (Around v u i g) m n h l =
     record { bytes = omega (arith, h .bytes, l .bytes); tokens = omega (arith, h .tokens, l .tokens); many = omega (arith, h .many, l .many) }
-small-joint a b (Around v u i) Varies m n h l = tt
-small-joint a b (Around v u i) (Fixed w k true) m n h l = tt
-small-joint a b (Around v u i) (Fixed w k false) m n h l =
+small-joint a b (Around v u i g) Varies m n h l = tt
+small-joint a b (Around v u i g) (Fixed w k j) m n h l =
     record { bytes = omega (arith, h .bytes, l .bytes); tokens = omega (arith, h .tokens, l .tokens); many = omega (arith, h .many, l .many) }
-small-joint a b (Around v u i) (Around w e k) m n h l = tt
+small-joint a b (Around v u i g) (Around w e k j) m n h l = tt
 
 few-more : (a b w k m n : ℕ) → b ≤ a → m ≤ n → Few a w k m → Few b w k n
 few-more a b w k m n least e h = record { bytes = omega (arith, h .bytes); tokens = h .tokens; many = omega (arith, h .many) }
@@ -52,14 +50,14 @@ small-more : (a b : ℕ) (x : Extent) (m n : ℕ) → b ≤ a → m ≤ n → Sm
 unfolding Small
 small-more a b Varies m n least e h = tt
 small-more a b (Fixed w k j) m n least e h = few-more a b w k m n least e h
-small-more a b (Around v u k) m n least e h = few-more a b (v + 4 + u) k m n least e h
+small-more a b (Around v u k j) m n least e h = few-more a b (v + 4 + u) k m n least e h
 
 -- the sums that the code makes of it
 pub small-least : (n : ℕ) (x : Extent) (size : ℕ) → Small n x size → (least x ≤ 8 * size) × (tokensIn x ≤ 8 * size)
 unfolding Small least tokensIn
 small-least n Varies size h = (omega arith, omega arith)
 small-least n (Fixed w k j) size h = (h .bytes, omega (arith, h .bytes, h .tokens))
-small-least n (Around b a k) size h = (h .bytes, omega (arith, h .bytes, h .tokens))
+small-least n (Around b a k j) size h = (h .bytes, omega (arith, h .bytes, h .tokens))
 
 mutual
   unfolding extentOf extentFields Small Solid SolidFields treeSize forestLength
@@ -89,17 +87,17 @@ or-false true = refl
 or-false false = refl
 
 -- nothing, and then an extent
-none-joint : (x : Extent) → x ≡ joint (Fixed 0 0 false) x
+pub none-joint : (x : Extent) → x ≡ joint (Fixed 0 0 false) x
 unfolding joint
 none-joint Varies = refl
 none-joint (Fixed w n j) =
     let bytes : w ≡ 0 + w = omega arith in
     let tokens : n ≡ 0 + n = omega arith in
     λ i. Fixed (bytes i) (tokens i) j
-none-joint (Around b a n) =
+none-joint (Around b a n j) =
     let bytes : b ≡ 0 + b = omega arith in
     let tokens : n ≡ 0 + n = omega arith in
-    λ i. Around (bytes i) a (tokens i)
+    λ i. Around (bytes i) a (tokens i) j
 
 -- an extent, and then nothing
 joint-none : (x : Extent) → joint x (Fixed 0 0 false) ≡ x
@@ -109,10 +107,10 @@ joint-none (Fixed w n j) =
     let bytes : w + 0 ≡ w = omega arith in
     let tokens : n + 0 ≡ n = omega arith in
     λ i. Fixed (bytes i) (tokens i) (or-false j i)
-joint-none (Around b a n) =
+joint-none (Around b a n j) =
     let bytes : a + 0 ≡ a = omega arith in
     let tokens : n + 0 ≡ n = omega arith in
-    λ i. Around b (bytes i) (tokens i)
+    λ i. Around b (bytes i) (tokens i) (or-false j i)
 
 module _ (d : List ℕ) (k start left : ℕ) where
   -- i of the types have been passed, up to p

@@ -8,6 +8,7 @@ pub mod Progresses
 pub mod Maxima
 pub mod Swapped
 pub mod Steps
+pub mod Keeping
 pub mod Crossing
 pub mod Turns
 pub mod Strings

@@ -1,10 +1,10 @@
 -- Elements that are passed in one step are those that the walk reads, element by element; and an array is its size words, those elements,
 -- and the walk of the others. Rests on the laws of extents, of the largest number, of the capped count and of rows split in two.
 use mathlib.Core.Path.{_≡_, refl, sym, ap, subst, _∙_}
-use mathlib.Core.Bool.{false}
+use mathlib.Core.Bool.{Bool}
 use mathlib.Core.List.{List, [], _∷_}
-use Prim.Native.Nat.{ℕ, suc, _+_, _-_, _*_, _/_, _<_, _≤_, min}
-use native.Mathlib.Nat.{add-zero, mul-le-mul-right, div-mul-le-self, div-lt-iff-lt-mul}
+use Prim.Native.Nat.{ℕ, zero, suc, _+_, _-_, _*_, _/_, _<_, _≤_, min}
+use native.Mathlib.Nat.{add-zero, suc-mul, mul-le-mul-right, div-mul-le-self, div-lt-iff-lt-mul}
 use native.Mathlib.Decide.{decLt}
 use native.Mathlib.Omega.{arith}
 use lib.ListN.{length}
@@ -23,6 +23,7 @@ use Rattle.flattened.specs.inner.Progress.{progress, plus, Reads}
 use Rattle.flattened.specs.inner.Sizes.{elementCap, cappedSizes}
 use Rattle.flattened.specs.inner.Extent.{typeRule, extentOf}
 use Rattle.flattened.specs.inner.Types.{typeAt, Solid}
+use Rattle.flattened.specs.inner.Columns.{beyond, placeOf, Kept, EachKeptHere}
 use Rattle.flattened.specs.inner.Arrays.{elementsAt, EachKeeps, Passes, resumed, Resumable, FrontMet}
 use Rattle.flattened.specs.declared.arrays.Front.the-variants.{Over, Rest}
 use Rattle.flattened.specs.declared.arrays.Passed.{Passed}
@@ -75,10 +76,23 @@ pass-none o t s n at r e = rw e (record {
   reads = record { tokens = []; eq = ap (λ (a : ℕ). read a []) (sym (add-zero at)); count = refl };
 })
 
--- values of a fixed extent, where nothing is judged
-pub pass-plain : (o : Order) (t : Tree) (s : List ℕ) (w k m n at : ℕ) → Fixed w k false ≡ extentOf t → m ≤ n → at + m * w ≤ length s
-    → Passes o t s n at (passedAs m w k)
-pass-plain o t s w k m n at known most room = record { most = most; reads = run-reads s t w k false (sym known) o m at refl room }
+-- values of a fixed extent stand w bytes apart
+fixed-place : (o : Order) (s : List ℕ) (w k : ℕ) (j : Bool) (at i : ℕ) → placeOf o s (Fixed w k j) at i ≡ at + i * w
+unfolding placeOf beyond
+fixed-place o s w k j at zero = omega arith
+fixed-place o s w k j at (suc i) = omega (arith, fixed-place o s w k j at i, suc-mul i w)
+
+-- those that keep their rules
+pub pass-plain : (o : Order) (t : Tree) (s : List ℕ) (w k : ℕ) (j : Bool) (m n at : ℕ) → Fixed w k j ≡ extentOf t → m ≤ n → at + m * w ≤ length s
+    → EachKeptHere o s t (Fixed w k j) at n → Passes o t s n at (passedAs m w k)
+pass-plain o t s w k j m n at known most room kept = record {
+  most = most;
+  reads = run-reads s t w k j (sym known) o m at (λ i h. subst (λ (p : ℕ). Kept o s t p) (fixed-place o s w k j at i) (kept i (omega arith))) room;
+}
+
+-- the first of more
+pub pass-more : (o : Order) (t : Tree) (s : List ℕ) (m n at : ℕ) (r : Passed) → m ≤ n → Passes o t s m at r → Passes o t s n at r
+pass-more o t s m n at r h passes = record { most = omega (arith, passes .most); reads = passes .reads }
 
 -- scalars that each keep their rule
 pub pass-kept : (d : List ℕ) (p : ℕ) → Stands d p → (w : ℕ) → w ≡ widthOf (codeIn d p) → 0 < w → (o : Order) (s : List ℕ) (m n at : ℕ) → m ≤ n

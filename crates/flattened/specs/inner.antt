@@ -5,5 +5,6 @@ pub mod Sizes
 pub mod Extent
 pub mod Types
 pub mod Largest
+pub mod Columns
 pub mod Arrays
 pub mod Checks

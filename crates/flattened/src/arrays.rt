@@ -1,7 +1,8 @@
 // The front of an array: its size words, and the elements that are passed in one step.
+use super::columns::across;
+use super::columns::keeping;
 use super::cursor::Cursor;
 use super::cursor::Skip;
-use super::cursor::Word;
 use super::extent::Extent;
 use super::extent::Rule;
 use super::extent::extent_of;
@@ -24,8 +25,7 @@ ghost use Rattle.flattened.specs.inner.Order.{orderOf};
 ghost use Rattle.flattened.specs.inner.Extent.{typeRule};
 ghost use Rattle.flattened.specs.inner.Types.{typeAt, TypeStands, DataAt};
 ghost use Rattle.flattened.specs.inner.Largest.{largest};
-ghost use Rattle.flattened.specs.declared.extent.Extent.the-variants.{Fixed, Around};
-ghost use Rattle.flattened.specs.inner.Arrays.{allKeep, EachKeeps, Passes, PassesIn, PassesEither, Across, FrontMet};
+ghost use Rattle.flattened.specs.inner.Arrays.{allKeep, EachKeeps, Passes, PassesEither, PassesAround, FrontMet};
 
 // How many elements are passed in one step, and their bytes and tokens.
 pub struct Passed {
@@ -132,34 +132,14 @@ fn many(count: usize, bytes: usize, tokens: usize) -> Passed
     }
 }
 
-// How many of the first of n values of w bytes and `tokens` tokens each are passed in one step: those that fit, where nothing is judged.
-fn pass_fixed(w: usize, tokens: usize, judged: bool, n: usize, s: &[u8], at: usize) -> Passed
+// How many of the first of n values of w bytes and `tokens` tokens each are passed in one step: those that fit.
+fn pass_fixed(w: usize, tokens: usize, n: usize, s: &[u8], at: usize) -> Passed
     requires { ⌜ (0 < w) × (w < 2 ^ 40) × (tokens ≤ w) ⌝ }
     requires { ⌜ DataAt (now s) at ⌝ }
-    ensures { λ r. ⌜ PassesEither (Fixed w tokens judged) (now (s .entry)) n at r ⌝ }
+    ensures { λ r. ⌜ PassesEither w tokens (now (s .entry)) n at r ⌝ }
 {
-    if judged {
-        return none_passed();
-    }
     let count = fitting(n, w, s.len() - at);
     many(count, count * w, tokens)
-}
-
-// Past `before` bytes, a string and `after` bytes.
-fn across(before: usize, after: usize, s: &[u8], from: Cursor, o: Order) -> Skip
-    requires { ⌜ from .at ≤ length (now s) ⌝ }
-    ensures { λ r. ⌜ Across (orderOf o) (now (s .entry)) before after (from .at) r ⌝ }
-{
-    let Skip::To(text) = from.skip(s, before) else {
-        return Skip::Cut;
-    };
-    let Word::Read(length, characters) = text.word(s, o) else {
-        return Skip::Cut;
-    };
-    let Skip::To(end) = characters.skip(s, length) else {
-        return Skip::Cut;
-    };
-    end.skip(s, after)
 }
 
 // How many of the first of n values are passed, each of `before` bytes, a string and `after` bytes, with `tokens` tokens in all: those
@@ -175,7 +155,7 @@ fn pass_around(
 ) -> Passed
     requires { ⌜ tokens ≤ before + 4 + after ⌝ }
     requires { ⌜ DataAt (now s) at ⌝ }
-    ensures { λ r. ⌜ PassesIn (orderOf o) (Around before after tokens) (now (s .entry)) n at r ⌝ }
+    ensures { λ r. ⌜ PassesAround (orderOf o) before after tokens (now (s .entry)) n at r ⌝ }
 {
     let mut next = Cursor { at };
     let mut count = 0;
@@ -204,8 +184,14 @@ fn pass(d: &[u8], p: usize, n: usize, s: &[u8], at: usize, o: Order, left: usize
     let extent = extent_of(d, p, left);
     match extent {
         Extent::Varies => none_passed(),
-        Extent::Fixed(w, tokens, judged) => pass_fixed(w, tokens, judged, n, s, at),
-        Extent::Around(before, after, tokens) => pass_around(before, after, tokens, n, s, at, o),
+        Extent::Fixed(w, tokens, judged) => {
+            let most = keeping(d, p, extent, judged, n, s, at, o, left);
+            pass_fixed(w, tokens, most, s, at)
+        }
+        Extent::Around(before, after, tokens, judged) => {
+            let most = keeping(d, p, extent, judged, n, s, at, o, left);
+            pass_around(before, after, tokens, most, s, at, o)
+        }
     }
 }
 

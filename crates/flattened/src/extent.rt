@@ -37,12 +37,12 @@ pub fn rule_of(d: &[u8], p: usize) -> Rule
     Rule::Any
 }
 
-// Bytes and tokens, and whether any number among them is judged; or the bytes before and after one string, and the tokens, where nothing
-// is judged. A type with an array or two strings inside varies.
+// Bytes and tokens, and whether any number among them is judged; or the bytes before and after one string, the tokens, and whether any
+// number is judged. A type with an array or two strings inside varies.
 pub enum Extent {
     Varies,
     Fixed(usize, usize, bool),
-    Around(usize, usize, usize),
+    Around(usize, usize, usize, bool),
 }
 
 // Whether either holds.
@@ -62,7 +62,7 @@ fn judges(r: Rule) -> bool
     }
 }
 
-// Bytes and tokens and then others, where nothing is judged beside a string.
+// Bytes and tokens and then others.
 fn fixed_joint(w: usize, k: usize, j: bool, next: Extent) -> Extent
     requires { ⌜ (w + least next < 2 ^ 40) × (k + tokensIn next < 2 ^ 40) ⌝ }
     ensures { λ r. ⌜ r ≡ joint (Fixed w k j) next ⌝ }
@@ -70,41 +70,33 @@ fn fixed_joint(w: usize, k: usize, j: bool, next: Extent) -> Extent
     match next {
         Extent::Varies => Extent::Varies,
         Extent::Fixed(v, n, i) => Extent::Fixed(w + v, k + n, either(j, i)),
-        Extent::Around(before, after, n) => {
-            if j {
-                return Extent::Varies;
-            }
-            Extent::Around(w + before, after, k + n)
+        Extent::Around(before, after, n, i) => {
+            Extent::Around(w + before, after, k + n, either(j, i))
         }
     }
 }
 
 // The bytes before and after a string and then others.
-fn around_joint(before: usize, after: usize, k: usize, next: Extent) -> Extent
+fn around_joint(before: usize, after: usize, k: usize, j: bool, next: Extent) -> Extent
     requires { ⌜ (after + least next < 2 ^ 40) × (k + tokensIn next < 2 ^ 40) ⌝ }
-    ensures { λ r. ⌜ r ≡ joint (Around before after k) next ⌝ }
+    ensures { λ r. ⌜ r ≡ joint (Around before after k j) next ⌝ }
 {
     match next {
         Extent::Varies => Extent::Varies,
-        Extent::Fixed(v, n, i) => {
-            if i {
-                return Extent::Varies;
-            }
-            Extent::Around(before, after + v, k + n)
-        }
-        Extent::Around(b, a, n) => Extent::Varies,
+        Extent::Fixed(v, n, i) => Extent::Around(before, after + v, k + n, either(j, i)),
+        Extent::Around(b, a, n, i) => Extent::Varies,
     }
 }
 
 // One extent and then another.
-fn joint(first: Extent, next: Extent) -> Extent
+pub fn joint(first: Extent, next: Extent) -> Extent
     requires { ⌜ (least first + least next < 2 ^ 40) × (tokensIn first + tokensIn next < 2 ^ 40) ⌝ }
     ensures { λ r. ⌜ r ≡ joint first next ⌝ }
 {
     match first {
         Extent::Varies => Extent::Varies,
         Extent::Fixed(w, k, j) => fixed_joint(w, k, j, next),
-        Extent::Around(before, after, k) => around_joint(before, after, k, next),
+        Extent::Around(before, after, k, j) => around_joint(before, after, k, j, next),
     }
 }
 
@@ -120,7 +112,7 @@ pub fn extent_of(d: &[u8], p: usize, left: usize) -> Extent
     }
     let k = kind_of(code);
     if let Kind::Text = k {
-        return Extent::Around(0, 0, 1);
+        return Extent::Around(0, 0, 1, false);
     }
     if let Kind::Cluster = k {
         let inside = inside_of(d, p);

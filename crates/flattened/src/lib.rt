@@ -1,6 +1,7 @@
 // Flattened data under a type.
 pub mod arrays;
 pub mod check;
+pub mod columns;
 pub mod cursor;
 pub mod extent;
 pub mod largest;

@@ -11,13 +11,13 @@ use Rattle.flattened.specs.Order.{Order, numberAt}
 use Rattle.flattened.specs.Token.{Token, sizes}
 use Rattle.flattened.specs.Walk.{token, arrayAt, repeat, walk}
 use Rattle.flattened.specs.inner.Extent.{keeps, extentOf}
+use Rattle.flattened.specs.inner.Columns.{EachKeptHere}
 use Rattle.flattened.specs.inner.Progress.{progress, plus, Reads}
 use Rattle.flattened.specs.declared.arrays.Front.{Front}
 use Rattle.flattened.specs.declared.arrays.Front.the-variants.{Over, Rest}
 use Rattle.flattened.specs.declared.arrays.Passed.{Passed}
-use Rattle.flattened.specs.declared.cursor.Skip.{Skip}
-use Rattle.flattened.specs.declared.cursor.Skip.the-variants.{To, Cut}
 use Rattle.flattened.specs.declared.extent.Extent.{Extent}
+use Rattle.flattened.specs.declared.extent.Extent.the-variants.{Fixed, Around}
 use Rattle.flattened.specs.declared.extent.Rule.{Rule}
 use Rattle.flattened.specs.declared.extent.Rule.the-variants.{Any, Below}
 use Rattle.flattened.specs.declared.progress.Progress.{Progress}
@@ -41,18 +41,17 @@ pub record Passes (o : Order) (t : Tree) (s : List ℕ) (n at : ℕ) (r : Passed
   pub most : r .count ≤ n
   pub reads : Reads (repeat (λ a. walk o t s a) (r .count) at) (at + r .bytes) (r .tokens)
 
--- of every type of the extent x
+-- of every type of the extent x, where the first n values keep its rules
 abbrev pub PassesIn : Order → Extent → List ℕ → ℕ → ℕ → Passed → Type 0
-PassesIn o x s n at r = (t : Tree) → x ≡ extentOf t → Passes o t s n at r
+PassesIn o x s n at r = (t : Tree) → x ≡ extentOf t → EachKeptHere o s t x at n → Passes o t s n at r
 
--- in either order
-abbrev pub PassesEither : Extent → List ℕ → ℕ → ℕ → Passed → Type 0
-PassesEither x s n at r = (o : Order) → PassesIn o x s n at r
+-- of w bytes and k tokens, judged or not, in either order
+abbrev pub PassesEither : ℕ → ℕ → List ℕ → ℕ → ℕ → Passed → Type 0
+PassesEither w k s n at r = (o : Order) (j : Bool) → PassesIn o (Fixed w k j) s n at r
 
--- the cursor past so many bytes, a string and so many bytes
-unfoldable pub Across : Order → List ℕ → ℕ → ℕ → ℕ → Skip → Type 0
-Across o s before after at Cut = Unit {0}
-Across o s before after at (To c) = (c .at ≡ at + before + 4 + numberAt o s (at + before) 4 + after) × (c .at ≤ length s)
+-- of so many bytes before and after a string
+abbrev pub PassesAround : Order → ℕ → ℕ → ℕ → List ℕ → ℕ → ℕ → Passed → Type 0
+PassesAround o before after k s n at r = (j : Bool) → PassesIn o (Around before after k j) s n at r
 
 -- the progress of the whole, where `rest` walks so many elements from a place on
 unfoldable pub resumed : Front → (ℕ → ℕ → Progress) → Progress

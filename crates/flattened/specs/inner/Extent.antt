@@ -47,34 +47,34 @@ unfoldable pub refusedBy : Rule → ℕ
 refusedBy Any = 24
 refusedBy (Below limit number) = number
 
--- one extent and then another: one string at most, and nothing judged beside it
+-- one extent and then another: one string at most
 unfoldable pub joint : Extent → Extent → Extent
 joint Varies y = Varies
 joint (Fixed w k j) Varies = Varies
 joint (Fixed w k j) (Fixed v n i) = Fixed (w + v) (k + n) (j || i)
-joint (Fixed w k j) (Around b a n) = cond j Varies (Around (w + b) a (k + n))
-joint (Around b a n) Varies = Varies
-joint (Around b a n) (Fixed w k j) = cond j Varies (Around b (a + w) (n + k))
-joint (Around b a n) (Around c e m) = Varies
+joint (Fixed w k j) (Around b a n i) = Around (w + b) a (k + n) (j || i)
+joint (Around b a n i) Varies = Varies
+joint (Around b a n i) (Fixed w k j) = Around b (a + w) (n + k) (i || j)
+joint (Around b a n i) (Around c e m j) = Varies
 
 -- the bytes that no value takes less than, a string's length word among them
 unfoldable pub least : Extent → ℕ
 least Varies = 0
 least (Fixed w k j) = w
-least (Around b a k) = b + 4 + a
+least (Around b a k j) = b + 4 + a
 
 -- and its tokens, no more than those bytes
 unfoldable pub tokensIn : Extent → ℕ
 tokensIn Varies = 0
 tokensIn (Fixed w k j) = k
-tokensIn (Around b a k) = k
+tokensIn (Around b a k j) = k
 
 -- by a type's code and fields; `inside` is the extent of the descriptors in it
 unfoldable pub extentFields : ℕ → Fields → Extent → Extent
 extentFields c empty inside = Fixed (widthOf c) 1 (judges (ruleOf c empty))
 extentFields c (items xs) inside = Fixed (widthOf c) 1 (judges (ruleOf c (items xs)))
 extentFields c (pairs ps) inside = Fixed (widthOf c) 1 (judges (ruleOf c (pairs ps)))
-extentFields c text inside = Around 0 0 1
+extentFields c text inside = Around 0 0 1 false
 extentFields c (dimensions k) inside = Varies
 extentFields c (members k) inside = inside
 

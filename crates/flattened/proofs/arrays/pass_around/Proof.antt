@@ -4,7 +4,7 @@ use Prim.Native.Nat.{_-_}
 use native.Mathlib.Omega.{arith}
 use denote.Ref.{now}
 use Rattle.flattened.specs.inner.Order.{orderOf}
-use Rattle.flattened.specs.inner.Arrays.{Across}
+use Rattle.flattened.specs.inner.Columns.{Across}
 use Rattle.flattened.specs.declared.cursor.Skip.{Skip}
 use Rattle.flattened.proofs.Crossing.{AroundLoop, around-begin, around-next, around-passes}
 use borrow.Author.Needs.{needs}

@@ -1,10 +1,10 @@
 -- `fixed_joint` meets its contract: by the extent that follows.
 use mathlib.Core.Path.{sym, ap, _∙_}
-use mathlib.Core.Bool.{Bool, cond}
+use mathlib.Core.Bool.{Bool}
 use Prim.Native.Nat.{_+_}
 use native.Mathlib.Omega.{arith}
 use Rattle.flattened.specs.inner.Extent.{joint, least, tokensIn}
-use Rattle.flattened.specs.declared.extent.Extent.the-variants.{Varies, Fixed, Around}
+use Rattle.flattened.specs.declared.extent.Extent.the-variants.{Fixed, Around}
 use borrow.Author.Needs.{needs}
 use Rattle.flattened.proofs.extent.fixed_joint.Statement.{statement}
 use Rattle.flattened.proofs.extent.fixed_joint.Tie as tie
@@ -15,13 +15,13 @@ enum-told c = search needs
 enum-known-next : tie.Need-enum-known-next
 enum-known-next c = search needs
 
-add-t12 : tie.Need-add-t12
-unfolding least
-add-t12 c = omega (arith, ap least (c .before .next .given .1), c .before .before .before .pre .0)
-
 add-t13 : tie.Need-add-t13
+unfolding least
+add-t13 c = omega (arith, ap least (c .before .next .given .1), c .before .before .before .pre .0)
+
+add-t14 : tie.Need-add-t14
 unfolding tokensIn
-add-t13 c = omega (arith, ap tokensIn (c .before .next .given .1), c .before .before .before .pre .1)
+add-t14 c = omega (arith, ap tokensIn (c .before .next .given .1), c .before .before .before .pre .1)
 
 either-requires : tie.Need-either-requires
 either-requires c κs = search needs
@@ -29,36 +29,34 @@ either-requires c κs = search needs
 enum-known-next-2 : tie.Need-enum-known-next-2
 enum-known-next-2 c = search needs
 
+add-t16 : tie.Need-add-t16
+unfolding least
+add-t16 c = omega (arith, ap least (c .before .next2 .given .1), c .before .before .before .pre .0)
+
+add-t17 : tie.Need-add-t17
+unfolding tokensIn
+add-t17 c = omega (arith, ap tokensIn (c .before .next2 .given .1), c .before .before .before .pre .1)
+
+either-requires-2 : tie.Need-either-requires-2
+either-requires-2 c κs = search needs
+
 returns : tie.Need-returns
 unfolding joint
 returns c = search needs
 
-add-t16 : tie.Need-add-t16
-unfolding least
-add-t16 c = omega (arith, ap least (c .before .before .next2 .given .1), c .before .before .before .before .pre .0)
-
-add-t17 : tie.Need-add-t17
-unfolding tokensIn
-add-t17 c = omega (arith, ap tokensIn (c .before .before .next2 .given .1), c .before .before .before .before .pre .1)
-
 returns-2 : tie.Need-returns-2
 unfolding joint
-returns-2 c = search needs
+returns-2 c =
+    let a = c .before .before .before .before .args in
+    let n = c .before .before .next .given in
+    ap (λ (b : Bool). Fixed (a .w + n .0 .0) (a .k + n .0 .1 .0) b) (c .either .ensures) ∙ ap (joint (Fixed (a .w) (a .k) (a .j))) (sym (n .1))
 
 returns-3 : tie.Need-returns-3
 unfolding joint
 returns-3 c =
     let a = c .before .before .before .before .args in
-    let n = c .before .before .next .given in
-    ap (λ (b : Bool). Fixed (a .w + n .0 .0) (a .k + n .0 .1 .0) b) (c .either .ensures) ∙ ap (joint (Fixed (a .w) (a .k) (a .j))) (sym (n .1))
-
-returns-4 : tie.Need-returns-4
-unfolding joint
-returns-4 c =
-    let a = c .before .before .before .before .args in
     let n = c .before .before .next2 .given in
-    let kept = Around (a .w + n .0 .0) (n .0 .1 .0) (a .k + n .0 .1 .1 .0) in
-    ap (λ (b : Bool). cond b Varies kept) (sym (c .if1 .left)) ∙ ap (joint (Fixed (a .w) (a .k) (a .j))) (sym (n .1))
+    ap (λ (b : Bool). Around (a .w + n .0 .0) (n .0 .1 .0) (a .k + n .0 .1 .1 .0) b) (c .either2 .ensures) ∙ ap (joint (Fixed (a .w) (a .k) (a .j))) (sym (n .1))
 
 pub fixed-joint-spec : {M : Type 1} → statement M
 fixed-joint-spec =
@@ -66,13 +64,13 @@ fixed-joint-spec =
     (tie.spec
     enum-told
     enum-known-next
-    add-t12
     add-t13
+    add-t14
     either-requires
     enum-known-next-2
-    returns
     add-t16
     add-t17
+    either-requires-2
+    returns
     returns-2
-    returns-3
-    returns-4)
+    returns-3)

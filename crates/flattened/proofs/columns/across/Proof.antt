@@ -6,12 +6,12 @@ use lib.ListN.{length}
 use denote.Ref.{now}
 use Rattle.flattened.specs.Order.{numberAt}
 use Rattle.flattened.specs.inner.Order.{orderOf}
-use Rattle.flattened.specs.inner.Arrays.{Across}
+use Rattle.flattened.specs.inner.Columns.{ArrivesAt}
 use Rattle.flattened.proofs.Steps.{word-read, skip-to}
 use Rattle.flattened.proofs.Crossing.{across-end}
 use borrow.Author.Needs.{needs}
-use Rattle.flattened.proofs.arrays.across.Statement.{statement}
-use Rattle.flattened.proofs.arrays.across.Tie as tie
+use Rattle.flattened.proofs.columns.across.Statement.{statement}
+use Rattle.flattened.proofs.columns.across.Tie as tie
 
 skip-requires : tie.Need-skip-requires
 skip-requires c κs = search needs
@@ -23,7 +23,7 @@ enum-told : tie.Need-enum-told
 enum-told c = search needs
 
 returns : tie.Need-returns
-unfolding Across
+unfolding ArrivesAt
 returns c = tt
 
 word-requires : tie.Need-word-requires
@@ -39,7 +39,7 @@ enum-told-2 : tie.Need-enum-told-2
 enum-told-2 c = search needs
 
 returns-2 : tie.Need-returns-2
-unfolding Across
+unfolding ArrivesAt
 returns-2 c = tt
 
 skip-requires-2 : tie.Need-skip-requires-2
@@ -55,7 +55,7 @@ enum-told-3 : tie.Need-enum-told-3
 enum-told-3 c = search needs
 
 returns-3 : tie.Need-returns-3
-unfolding Across
+unfolding ArrivesAt
 returns-3 c = tt
 
 skip-requires-3 : tie.Need-skip-requires-3
