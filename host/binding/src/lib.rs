@@ -4,10 +4,12 @@
 
 mod data;
 mod descriptor;
+mod limits;
 mod raw;
 mod record;
 
 pub use data::{check_data, from_little_endian, read_value, to_little_endian, view};
 pub use descriptor::{Compared, check_descriptor, compare, normal_form};
+pub use limits::{DATA_LIMIT, DESCRIPTOR_LIMIT};
 pub use raw::{Answer, Checked, Part, Row, Value};
 pub use record::read_record;

@@ -1,134 +1,38 @@
-//! Accepted data as an indented list, a line for each part: its step, its type,
-//! its name, what it says and where it stands. All of that is asked of the
-//! library, path by path.
+//! What a part of accepted data says.
 
-use kerbcanopy::Row;
+use crate::descriptor::Descriptor;
+use crate::value;
+use crate::words::{counted, quoted};
 
-use crate::words::{counted, escaped, kind, name};
-use crate::{hexadecimal, value};
-
-/// How many elements of an array are listed.
-const ELEMENTS: u64 = 8;
-/// How many characters of a string are shown.
+/// How many characters of a string are shown where not all are asked for.
 const CHARACTERS: usize = 60;
+/// How many elements of an array are listed where not all are asked for.
+pub const ELEMENTS: u64 = 8;
 
-/// The list of accepted data under its descriptor, whose rows these are.
-pub fn text(descriptor: &[u8], rows: &[Row], data: &[u8]) -> String {
-    let mut list = List {
-        descriptor,
-        rows,
-        data,
-        path: Vec::new(),
-        text: String::new(),
-    };
-    list.part(0, "");
-    list.text
-}
-
-struct List<'a> {
-    descriptor: &'a [u8],
-    rows: &'a [Row],
-    data: &'a [u8],
-    path: Vec<u32>,
-    text: String,
-}
-
-impl List<'_> {
-    /// Lists the part at the path, whose row this is, and all that is in it.
-    fn part(&mut self, index: usize, step: &str) {
-        let row = &self.rows[index];
-        let part = kerbcanopy::view(self.descriptor, self.data, &self.path);
-        let bytes = &self.data[part.start..part.start + part.length];
-        let line = format!(
-            "{step}{}{}{}, {} at {}",
-            kind(row),
-            name(self.descriptor, row),
-            self.says(row, bytes),
-            counted(part.length, "byte"),
-            part.start,
-        );
-        self.line(&line);
-        match row.code {
-            0x40 => self.elements(index + 1, element_count(&sizes(row, bytes))),
-            0x50 => self.members(index + 1, u32::from(row.count)),
-            _ => {}
-        }
-    }
-
-    fn line(&mut self, line: &str) {
-        self.text += &"  ".repeat(self.path.len() + 1);
-        self.text += line;
-        self.text += "\n";
-    }
-
-    fn members(&mut self, mut index: usize, count: u32) {
-        for step in 0..count {
-            self.path.push(step);
-            self.part(index, &format!("{step}: "));
-            self.path.pop();
-            index = self.behind(index);
-        }
-    }
-
-    /// Lists the first elements, all of which have this row.
-    fn elements(&mut self, index: usize, count: u64) {
-        for step in 0..count.min(ELEMENTS) as u32 {
-            self.path.push(step);
-            self.part(index, &format!("{step}: "));
-            self.path.pop();
-        }
-        if count > ELEMENTS {
-            self.path.push(0);
-            self.line(&format!(".. {} more", count - ELEMENTS));
-            self.path.pop();
-        }
-    }
-
-    /// The row behind this one and all that is in it.
-    fn behind(&self, index: usize) -> usize {
-        let depth = self.rows[index].depth;
-        let mut inside = self.rows[index + 1..].iter();
-        let rows = inside.position(|row| row.depth <= depth);
-        rows.map_or(self.rows.len(), |rows| index + 1 + rows)
-    }
-
-    /// What a part says, behind its type and name.
-    fn says(&self, row: &Row, bytes: &[u8]) -> String {
-        match row.code {
-            0x30 => format!(" = {}", characters(&bytes[4..])),
-            0x40 => format!(", {}", extent(&sizes(row, bytes))),
-            0x50 => String::new(),
-            0x15..=0x17 => {
-                let read = kerbcanopy::read_value(self.descriptor, self.data, &self.path);
-                let item = escaped(item(self.descriptor, row, read.bits));
-                format!(" = {} \"{item}\"", value::text(&read))
-            }
-            _ => {
-                let read = kerbcanopy::read_value(self.descriptor, self.data, &self.path);
-                match read.answer.number {
-                    0 => format!(" = {}", value::text(&read)),
-                    _ => format!(" = bytes {}", hexadecimal::line(bytes)),
-                }
-            }
-        }
+/// A number with its item where it is an enumeration's.
+pub fn number(descriptor: &Descriptor, row: usize, bytes: &[u8]) -> String {
+    let own = descriptor.own(row);
+    let text = value::scalar(own, descriptor.rows[row].code, bytes);
+    let number = kerbcanopy::read_value(own, bytes, &[]).bits;
+    match descriptor.items(row).get(number as usize) {
+        Some(item) => format!("{text} {}", quoted(item)),
+        None => text,
     }
 }
 
-/// The size words in front of an array's elements.
-fn sizes(row: &Row, bytes: &[u8]) -> Vec<u32> {
-    let words = bytes.as_chunks::<4>().0.iter();
-    let sizes = words.take(usize::from(row.count));
-    sizes.map(|word| u32::from_be_bytes(*word)).collect()
-}
-
-/// How many elements there are; more than can be counted don't fit the data.
-fn element_count(sizes: &[u32]) -> u64 {
-    let sizes = sizes.iter().map(|size| u64::from(*size));
-    sizes.fold(1, u64::saturating_mul)
+/// A string's characters in quotes, or their beginning where there are many.
+pub fn characters(bytes: &[u8], all: bool) -> String {
+    match bytes.get(..CHARACTERS) {
+        Some(first) if bytes.len() > CHARACTERS && !all => {
+            let more = bytes.len() - CHARACTERS;
+            format!("{} .. {more} more", quoted(first))
+        }
+        _ => quoted(bytes),
+    }
 }
 
 /// An array's sizes: `3 elements`, `2 x 3 elements`.
-fn extent(sizes: &[u32]) -> String {
+pub fn extent(sizes: &[u32]) -> String {
     match sizes {
         [size] => counted(*size as usize, "element"),
         _ => {
@@ -136,24 +40,6 @@ fn extent(sizes: &[u32]) -> String {
             format!("{} elements", sizes.join(" x "))
         }
     }
-}
-
-/// A string in quotes, or its beginning where it is long.
-fn characters(bytes: &[u8]) -> String {
-    match bytes.get(..CHARACTERS) {
-        Some(first) if bytes.len() > CHARACTERS => format!("\"{}\" ..", escaped(first)),
-        _ => format!("\"{}\"", escaped(bytes)),
-    }
-}
-
-/// The text of an enumeration's item: the packed strings start behind the count.
-fn item<'a>(descriptor: &'a [u8], row: &Row, number: u64) -> &'a [u8] {
-    let mut start = usize::from(row.start) + 6;
-    for _ in 0..number {
-        start += 1 + usize::from(descriptor[start]);
-    }
-    let length = usize::from(descriptor[start]);
-    &descriptor[start + 1..start + 1 + length]
 }
 
 #[cfg(test)]
@@ -164,19 +50,24 @@ mod tests {
     fn extents() {
         assert_eq!(extent(&[1]), "1 element");
         assert_eq!(extent(&[2, 3]), "2 x 3 elements");
-        assert_eq!(element_count(&[2, 3]), 6);
-        assert_eq!(
-            element_count(&[0x7FFF_FFFF, 0x7FFF_FFFF, 0x7FFF_FFFF, 0]),
-            0
-        );
     }
 
     #[test]
     fn a_long_string_is_cut() {
         let long = vec![b'x'; CHARACTERS + 1];
         let shown = "x".repeat(CHARACTERS);
-        assert_eq!(characters(&long), format!("\"{shown}\" .."));
-        assert_eq!(characters(&long[1..]), format!("\"{shown}\""));
-        assert_eq!(characters(b""), "\"\"");
+        assert_eq!(characters(&long, false), format!("\"{shown}\" .. 1 more"));
+        assert_eq!(characters(&long[1..], false), format!("\"{shown}\""));
+        assert_eq!(characters(&long, true), format!("\"{shown}x\""));
+        assert_eq!(characters(b"", false), "\"\"");
+    }
+
+    #[test]
+    fn an_enumeration_s_item_stands_beside_its_number() {
+        let modes = b"\x00\x0E\x00\x15\x00\x03\x02on\x00\x03off";
+        let modes = Descriptor::of(modes).expect("it is accepted");
+        assert_eq!(number(&modes, 0, &[2]), "2 \"off\"");
+        let plain = Descriptor::of(b"\x00\x04\x00\x05").expect("it is accepted");
+        assert_eq!(number(&plain, 0, &[2]), "2");
     }
 }

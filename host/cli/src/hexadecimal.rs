@@ -1,37 +1,59 @@
 //! Bytes as hexadecimal text, in words of 16 bits as the papers print them.
 
-/// The bytes of a text: two digits each, spaces between bytes as they come,
+/// Reads text as it comes: two digits a byte, spaces between bytes as they are,
 /// and from a `#` to the end of its line a comment.
-pub fn bytes(text: &[u8]) -> Result<Vec<u8>, String> {
-    let mut bytes = Vec::new();
-    for (index, line) in text.split(|&byte| byte == b'\n').enumerate() {
-        let digits = line.split(|&byte| byte == b'#').next().unwrap_or_default();
-        for word in digits.split(u8::is_ascii_whitespace) {
-            read_word(word, &mut bytes)
-                .map_err(|trouble| format!("line {}: {trouble}", index + 1))?;
-        }
-    }
-    Ok(bytes)
+#[derive(Default)]
+pub struct Decoder {
+    pub bytes: Vec<u8>,
+    /// The first digit of a byte whose second has not come yet.
+    half: Option<u8>,
+    comment: bool,
+    lines: usize,
 }
 
-fn read_word(word: &[u8], bytes: &mut Vec<u8>) -> Result<(), String> {
-    for pair in word.chunks(2) {
-        let mut value = 0;
-        for &character in pair {
-            let digit = (character as char).to_digit(16);
-            let digit = digit
-                .ok_or_else(|| format!("'{}' is no hexadecimal digit", character.escape_ascii()))?;
-            value = value * 16 + digit as u8;
+impl Decoder {
+    /// Reads one more character, or says what is wrong with it.
+    pub fn push(&mut self, character: u8) -> Result<(), String> {
+        match character {
+            b'\n' => {
+                self.space()?;
+                self.lines += 1;
+                self.comment = false;
+            }
+            _ if self.comment => {}
+            b'#' => {
+                self.space()?;
+                self.comment = true;
+            }
+            _ if character.is_ascii_whitespace() => self.space()?,
+            _ => self.digit(character)?,
         }
-        if pair.len() == 1 {
-            return Err(format!(
-                "half a byte at the end of '{}'",
-                word.escape_ascii()
-            ));
-        }
-        bytes.push(value);
+        Ok(())
     }
-    Ok(())
+
+    fn digit(&mut self, character: u8) -> Result<(), String> {
+        let Some(digit) = char::from(character).to_digit(16) else {
+            let character = character.escape_ascii();
+            return Err(self.trouble(&format!("'{character}' is no hexadecimal digit")));
+        };
+        match self.half.take() {
+            None => self.half = Some(digit as u8),
+            Some(half) => self.bytes.push(half * 16 + digit as u8),
+        }
+        Ok(())
+    }
+
+    /// Between two bytes, or at the end: no byte may be open.
+    pub fn space(&self) -> Result<(), String> {
+        match self.half {
+            None => Ok(()),
+            Some(_) => Err(self.trouble("a byte has one digit where two are needed")),
+        }
+    }
+
+    fn trouble(&self, what: &str) -> String {
+        format!("line {}: {what}", self.lines + 1)
+    }
 }
 
 /// The bytes as text, eight words to a line.
@@ -42,34 +64,48 @@ pub fn text(bytes: &[u8]) -> String {
 
 /// The bytes in one line.
 pub fn line(bytes: &[u8]) -> String {
-    let words = bytes.chunks(2).map(|word| {
-        let digits = word.iter().map(|byte| format!("{byte:02X}"));
-        digits.collect::<String>()
-    });
+    let words = bytes.chunks(2).map(digits);
     words.collect::<Vec<_>>().join(" ")
+}
+
+/// The digits alone.
+pub fn digits(bytes: &[u8]) -> String {
+    bytes.iter().map(|byte| format!("{byte:02X}")).collect()
 }
 
 #[cfg(test)]
 mod tests {
     use super::*;
 
+    fn bytes(text: &[u8]) -> Result<Vec<u8>, String> {
+        let mut decoder = Decoder::default();
+        for &character in text {
+            decoder.push(character)?;
+        }
+        decoder.space()?;
+        Ok(decoder.bytes)
+    }
+
     #[test]
     fn spaces_and_comments_are_left_out() {
         let text = b"# an integer\n0004 00 03  # 0005\r\n\n\t01";
         assert_eq!(bytes(text), Ok(vec![0, 4, 0, 3, 1]));
+        assert_eq!(bytes(b"aB# Cd"), Ok(vec![0xAB]));
         assert_eq!(bytes(b""), Ok(vec![]));
     }
 
     #[test]
     fn trouble_is_named_with_its_line() {
-        let half = "line 2: half a byte at the end of '000'".to_string();
-        assert_eq!(bytes(b"00\n000 4"), Err(half));
-        let letter = "line 1: 'g' is no hexadecimal digit".to_string();
-        assert_eq!(bytes(b"00g4"), Err(letter));
-        let sign = "line 1: '+' is no hexadecimal digit".to_string();
-        assert_eq!(bytes(b"+4"), Err(sign));
-        let other = "line 1: '\\xe9' is no hexadecimal digit".to_string();
-        assert_eq!(bytes(b"\xE9"), Err(other));
+        let half = |line| format!("line {line}: a byte has one digit where two are needed");
+        assert_eq!(bytes(b"00\n000 4"), Err(half(2)));
+        assert_eq!(bytes(b"00\n\n0"), Err(half(3)));
+        assert_eq!(bytes(b"0#0"), Err(half(1)));
+        assert_eq!(bytes(b"0\n0"), Err(half(1)));
+        let digit = |shown| Err(format!("line 1: '{shown}' is no hexadecimal digit"));
+        assert_eq!(bytes(b"00g4"), digit("g"));
+        assert_eq!(bytes(b"+4"), digit("+"));
+        assert_eq!(bytes(b"\xE9"), digit("\\xe9"));
+        assert_eq!(bytes(b"\x1B"), digit("\\x1b"));
     }
 
     #[test]

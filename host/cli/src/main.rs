@@ -1,79 +1,47 @@
 //! The command `kerbcanopy`. The library judges the bytes; this owns files,
-//! messages and the exit status: 0 accepted or equal, 1 refused or not equal,
-//! 2 a wrong use or trouble with a file. Standard output has only what was
-//! asked for; refusals and trouble go to standard error.
+//! messages and the exit status: 0 accepted or equal, 1 refused, 2 a wrong use or
+//! trouble with a file, 3 for two descriptors that differ. Standard output has
+//! only what was asked for; each status but 0 has one line on standard error.
 #![forbid(unsafe_code)]
 
+mod arguments;
+mod ask;
 mod command;
+#[cfg(test)]
+mod consistency;
 mod content;
-mod data;
 mod descriptor;
-mod file;
+mod difference;
+mod explain;
+mod help;
 mod hexadecimal;
-mod listing;
-mod record;
+mod input;
+mod json;
+mod layout;
+mod outcome;
+mod output;
+mod path;
 mod refusal;
+mod replace;
+mod tokens;
 mod value;
 mod words;
 
-use std::io::Write;
 use std::process::ExitCode;
 
-use command::Command;
-
-/// What a command comes to.
-pub struct Outcome {
-    pub status: u8,
-    /// For standard output.
-    pub answer: String,
-    /// For standard error.
-    pub refusal: String,
-}
-
-impl Outcome {
-    pub fn accepted(answer: String) -> Outcome {
-        Outcome {
-            status: 0,
-            answer,
-            refusal: String::new(),
-        }
-    }
-
-    pub fn not_equal(answer: String) -> Outcome {
-        Outcome {
-            status: 1,
-            answer,
-            refusal: String::new(),
-        }
-    }
-
-    pub fn refused(refusal: String) -> Outcome {
-        Outcome {
-            status: 1,
-            answer: String::new(),
-            refusal,
-        }
-    }
-}
+use arguments::Arguments;
+use outcome::Outcome;
 
 fn main() -> ExitCode {
-    let arguments: Vec<_> = std::env::args_os().skip(1).collect();
-    let command = match Command::read(&arguments) {
-        Ok(command) => command,
-        Err(trouble) => return fail(&format!("{trouble}\n{}", command::USAGE)),
+    let words: Vec<_> = std::env::args_os().skip(1).collect();
+    let outcome = match Arguments::read(&words) {
+        Ok(arguments) => command::run(&arguments)
+            .unwrap_or_else(|trouble| Outcome::trouble(&trouble, arguments.json())),
+        Err(trouble) => {
+            // Words that could not be read whole may still ask for it.
+            let mut options = words.iter().take_while(|word| *word != "--");
+            Outcome::trouble(&trouble, options.any(|word| word == "--json"))
+        }
     };
-    let outcome = match command.run() {
-        Ok(outcome) => outcome,
-        Err(trouble) => return fail(&trouble),
-    };
-    eprint!("{}", outcome.refusal);
-    match std::io::stdout().write_all(outcome.answer.as_bytes()) {
-        Ok(()) => ExitCode::from(outcome.status),
-        Err(error) => fail(&format!("standard output: {error}")),
-    }
-}
-
-fn fail(trouble: &str) -> ExitCode {
-    eprintln!("kerbcanopy: {trouble}");
-    ExitCode::from(2)
+    outcome.show()
 }

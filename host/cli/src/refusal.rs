@@ -1,54 +1,246 @@
-//! A refusal in plain words: the number, what it means, the input, the place
-//! and the bytes or steps around it, or the member there.
+//! A refusal in plain words: the number, what it means, the input, the place,
+//! the bytes or steps around it, and the path of the member that it falls in.
 
-use std::path::Path;
+use std::ffi::OsString;
 
-use kerbcanopy::{Answer, Row};
+use kerbcanopy::Answer;
 
-use crate::words::{kind, name};
+use crate::descriptor::Descriptor;
+use crate::difference;
+use crate::input::Input;
+use crate::json::Json;
+use crate::layout;
+use crate::outcome::Outcome;
+use crate::path;
+use crate::tokens::{self, Order};
+use crate::words::{counted, named_kind, shown};
 
 /// How many bytes are shown on either side of the place.
 const AROUND: usize = 8;
 
-/// The lines that say what was refused in the file.
-pub fn text(path: &Path, bytes: &[u8], answer: Answer) -> String {
-    lines(path, answer, &around(bytes, answer.place as usize))
+/// What a question was lent.
+pub struct Lent<'a> {
+    pub first: &'a Input,
+    pub second: Option<&'a Input>,
+    pub data: Option<&'a Input>,
+    /// How numbers of the data are read.
+    pub order: Order,
+    /// The path, as it was given and by its numbers.
+    pub steps: &'a [OsString],
+    pub path: &'a [u32],
+    /// The output's length.
+    pub room: usize,
 }
 
-/// The lines that say what was refused in the request about the file: 30 with
-/// the steps, that of the place in brackets, or 31.
-pub fn of_request(path: &Path, steps: &[u32], answer: Answer) -> String {
-    lines(path, answer, &marked(steps, answer))
+impl<'a> Lent<'a> {
+    /// Descriptors alone.
+    pub fn descriptors(first: &'a Input, second: Option<&'a Input>) -> Lent<'a> {
+        Lent {
+            first,
+            second,
+            data: None,
+            order: Order::Big,
+            steps: &[],
+            path: &[],
+            room: 0,
+        }
+    }
+
+    /// Data under a descriptor.
+    pub fn data(first: &'a Input, data: &'a Input) -> Lent<'a> {
+        Lent {
+            data: Some(data),
+            ..Lent::descriptors(first, None)
+        }
+    }
+
+    /// The input of this number, and what it is. The request is told by the file
+    /// that it was about.
+    fn input(&self, number: u32) -> (&'a Input, &'static str) {
+        let data = self.data.unwrap_or(self.first);
+        match (number, self.second, self.data) {
+            (1, None, _) => (self.first, "the descriptor"),
+            (1, _, None) => (self.first, "the first descriptor"),
+            (1, _, _) => (self.first, "the writer's descriptor"),
+            (2, Some(second), None) => (second, "the second descriptor"),
+            (2, Some(second), _) => (second, "the reader's descriptor"),
+            (3, _, _) => (data, "the data"),
+            _ => (data, "the request"),
+        }
+    }
 }
 
-/// The lines that say what was refused in an accepted descriptor for what it is
-/// asked to be: 41 with the type of the whole, or 40 and 42 to 44 with that of the
-/// member whose number is the place.
-pub fn of_type(path: &Path, descriptor: &[u8], answer: Answer) -> String {
-    let rows = kerbcanopy::check_descriptor(descriptor).rows;
-    let inside_top = |row: &&Row| row.depth == 2;
-    let member = match rows[0].code {
-        0x50 => rows.iter().filter(inside_top).nth(answer.place as usize),
-        _ => None,
+pub struct Refusal {
+    answer: Answer,
+    file: String,
+    input: &'static str,
+    /// What stands at the place.
+    there: String,
+    /// The path of the member that the place falls in.
+    path: Vec<u32>,
+    path_words: String,
+    names: Json,
+}
+
+impl Refusal {
+    /// What this refusal of a question says.
+    pub fn of(answer: Answer, lent: &Lent) -> Refusal {
+        let (file, input) = lent.input(answer.input);
+        let mut refusal = Refusal {
+            answer,
+            file: file.name.clone(),
+            input,
+            there: around(&file.bytes, answer.place as usize),
+            path: Vec::new(),
+            path_words: String::new(),
+            names: Json::list([]),
+        };
+        match answer.number {
+            1..=12 => refusal.falls_in(layout::of(&file.bytes, answer).path, None),
+            50 => refusal.there = format!("room for {}", counted(lent.room, "byte")),
+            _ => refusal.under_types(lent),
+        }
+        refusal
+    }
+
+    /// What is refused under accepted descriptors.
+    fn under_types(&mut self, lent: &Lent) {
+        let Some(first) = Descriptor::of(&lent.first.bytes) else {
+            return;
+        };
+        match self.answer.number {
+            20..=25 => {
+                let data = lent.data.map_or(&[][..], |data| &data.bytes);
+                let walked = tokens::walk(&first, data, self.answer, lent.order, 0);
+                let path = walked.fault.map(|fault| fault.path);
+                self.falls_in(path.unwrap_or_default(), Some(&first));
+            }
+            30 | 31 => {
+                let reached = match self.answer.number {
+                    30 => &lent.path[..self.answer.place as usize],
+                    _ => lent.path,
+                };
+                let row = path::row(&first, reached).unwrap_or(0);
+                let steps = marked(lent.steps, self.answer);
+                self.there = format!("{steps}; {}", named_kind(&first, row));
+                self.falls_in(reached.to_vec(), Some(&first));
+            }
+            41 => self.there = named_kind(&first, 0),
+            _ => {
+                let second = lent.second.and_then(|second| Descriptor::of(&second.bytes));
+                if let Some(second) = second {
+                    self.of_member(&first, &second);
+                }
+            }
+        }
+    }
+
+    /// 40 and 42 to 44: the reader's member whose number is the place, and what
+    /// the writer has instead.
+    fn of_member(&mut self, writer: &Descriptor, reader: &Descriptor) {
+        let member = match reader.rows[0].code {
+            0x50 => path::row(reader, &[self.answer.place]),
+            _ => None,
+        };
+        let Some(member) = member else {
+            self.there = named_kind(reader, 0);
+            return;
+        };
+        self.falls_in(vec![self.answer.place], Some(reader));
+        self.there = named_kind(reader, member);
+        if self.answer.number == 44 {
+            self.there += &instead(writer, reader, member).unwrap_or_default();
+        }
+    }
+
+    fn falls_in(&mut self, path: Vec<u32>, descriptor: Option<&Descriptor>) {
+        match descriptor {
+            Some(descriptor) => {
+                self.path_words = path::words(descriptor, &path);
+                self.names = path::names(descriptor, &path);
+            }
+            // A refused descriptor's names stand behind what was refused.
+            None => {
+                let steps: Vec<_> = path.iter().map(u32::to_string).collect();
+                self.path_words = steps.join(", ");
+                self.names = Json::list(path.iter().map(|_| Json::Null));
+            }
+        }
+        self.path = path;
+    }
+
+    /// The whole in one line.
+    pub fn line(&self) -> String {
+        let Answer {
+            number,
+            input,
+            place,
+        } = self.answer;
+        let within = match self.path_words.as_str() {
+            "" => String::new(),
+            words => format!("; in {words}"),
+        };
+        format!(
+            "{}: refused with {number}: {} (input {input}, {}; place {place}{within}): {}",
+            self.file,
+            meaning(number),
+            self.input,
+            self.there,
+        )
+    }
+
+    pub fn json(&self) -> Json {
+        answer_json(self.answer).with([
+            ("meaning", Json::text(meaning(self.answer.number))),
+            ("file", Json::text(&self.file)),
+            ("path", path::numbers(&self.path)),
+            ("names", self.names.clone()),
+            ("there", Json::text(&self.there)),
+        ])
+    }
+
+    pub fn outcome(&self, json: bool) -> Outcome {
+        let answer = if json {
+            self.json().line()
+        } else {
+            String::new()
+        };
+        Outcome::refused(answer, self.line())
+    }
+}
+
+/// The three numbers of an answer.
+pub fn answer_json(answer: Answer) -> Json {
+    Json::object([
+        ("number", Json::number(answer.number)),
+        ("input", Json::number(answer.input)),
+        ("place", Json::number(answer.place)),
+    ])
+}
+
+/// How the writer's member of the same name differs from the reader's.
+fn instead(writer: &Descriptor, reader: &Descriptor, member: usize) -> Option<String> {
+    let name = reader.name(member);
+    let same = |row: &usize| writer.name(*row) == name;
+    let twin = writer.inside(0).into_iter().find(same)?;
+    let own = [reader.own(member), writer.own(twin)].map(Descriptor::of);
+    let [Some(own), Some(other)] = &own else {
+        return None;
     };
-    let row = member.unwrap_or(&rows[0]);
-    let words = format!("{}{}", kind(row), name(descriptor, row));
-    lines(path, answer, &words)
+    let found = difference::first(own, other)?;
+    let at = path::words(own, &found.path);
+    let within = if at.is_empty() {
+        at
+    } else {
+        format!(" in {at}")
+    };
+    Some(format!(
+        "; first difference{within}: {} is {} here and {} in the writer",
+        found.what, found.first.text, found.second.text
+    ))
 }
 
-/// The number, what it means, the input and the place, with what stands there.
-fn lines(path: &Path, answer: Answer, there: &str) -> String {
-    format!(
-        "{}: refused with {}: {}\n  input {}, place {}: {there}\n",
-        path.display(),
-        answer.number,
-        meaning(answer.number),
-        answer.input,
-        answer.place,
-    )
-}
-
-fn meaning(number: u32) -> &'static str {
+pub fn meaning(number: u32) -> &'static str {
     match number {
         1 => "the descriptor has more than 4,096 bytes",
         2 => "fewer than 4 bytes are left where a descriptor should start",
@@ -87,13 +279,13 @@ fn meaning(number: u32) -> &'static str {
 }
 
 /// The steps, the one that leads nowhere in brackets.
-fn marked(steps: &[u32], answer: Answer) -> String {
+fn marked(steps: &[OsString], answer: Answer) -> String {
     if steps.is_empty() {
         return "no steps".into();
     }
-    let mark = |(place, step): (usize, &u32)| match answer.number {
-        30 if place == answer.place as usize => format!("[{step}]"),
-        _ => step.to_string(),
+    let mark = |(place, step): (usize, &OsString)| match answer.number {
+        30 if place == answer.place as usize => format!("[{}]", shown(step)),
+        _ => shown(step),
     };
     let steps: Vec<String> = steps.iter().enumerate().map(mark).collect();
     format!("steps {}", steps.join(" "))
@@ -157,57 +349,9 @@ mod tests {
             input: 4,
             place,
         };
-        assert_eq!(marked(&[3, 7, 0], refusal(30, 1)), "steps 3 [7] 0");
-        assert_eq!(marked(&[3, 7], refusal(31, 0)), "steps 3 7");
+        let steps = ["3", "id", "0"].map(OsString::from);
+        assert_eq!(marked(&steps, refusal(30, 1)), "steps 3 [id] 0");
+        assert_eq!(marked(&steps[..2], refusal(31, 0)), "steps 3 id");
         assert_eq!(marked(&[], refusal(31, 0)), "no steps");
-    }
-
-    #[test]
-    fn a_refusal_names_the_file_and_the_place() {
-        let answer = Answer {
-            number: 4,
-            input: 2,
-            place: 0,
-        };
-        let expected = "reader.hex: refused with 4: the size is odd, under 4, or runs past the end of what it stands in
-  input 2, place 0: [00] 05 00 03 00
-";
-        let bytes = [0, 5, 0, 3, 0];
-        assert_eq!(text(Path::new("reader.hex"), &bytes, answer), expected);
-    }
-
-    #[test]
-    fn a_member_is_named_with_its_type() {
-        let reader = b"\x00\x14\x00\x50\x00\x02\x00\x06\x00\x02\x01t\x00\x08\x00\x07\x02id\x00";
-        let words = |number, place| {
-            let answer = Answer {
-                number,
-                input: 2,
-                place,
-            };
-            let text = of_type(Path::new("reader.hex"), reader, answer);
-            let last = text.lines().last().unwrap_or_default();
-            last.to_string()
-        };
-        let first = "  input 2, place 0: signed 16-bit integer \"t\"";
-        assert_eq!(words(42, 0), first);
-        let second = "  input 2, place 1: unsigned 32-bit integer \"id\"";
-        assert_eq!(words(44, 1), second);
-    }
-
-    #[test]
-    fn what_is_no_cluster_is_named_as_a_whole() {
-        let answer = Answer {
-            number: 41,
-            input: 1,
-            place: 0,
-        };
-        let expected = "rig.hex: refused with 41: the writer is no cluster
-  input 1, place 0: signed 32-bit integer
-";
-        assert_eq!(
-            of_type(Path::new("rig.hex"), &[0, 4, 0, 3], answer),
-            expected
-        );
     }
 }

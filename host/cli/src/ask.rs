@@ -1,0 +1,13 @@
+//! The questions: each asks the library and puts its answer into words.
+
+mod data;
+mod descriptor;
+mod dump;
+mod explain;
+mod record;
+
+pub use data::{big, data, little, value, view};
+pub use descriptor::{check, compare, normal};
+pub use dump::dump;
+pub use explain::explain;
+pub use record::read;

@@ -1,0 +1,50 @@
+//! Every byte with what it is.
+
+use std::io::IsTerminal;
+
+use crate::command::Request;
+use crate::explain::{Section, page, text};
+use crate::json::Json;
+use crate::outcome::Outcome;
+use crate::output;
+use crate::words::shown;
+
+/// Explains the descriptor and, where it is accepted, the data.
+pub fn explain(request: &Request) -> Result<Outcome, String> {
+    let all = request.options.all;
+    let descriptor = &request.files[0];
+    let mut sections = vec![Section::descriptor(descriptor)];
+    if let (Some(data), None) = (request.files.get(1), &sections[0].refusal) {
+        sections.push(Section::data(descriptor, data, all));
+    }
+    let answer = match (request.options.json, request.options.html) {
+        (true, _) => {
+            Json::object([("sections", Json::list(sections.iter().map(Section::json)))]).line()
+        }
+        (_, true) => page::of(&sections),
+        _ => text::of(&sections, all, coloured(request)),
+    };
+    let answer = match request.options.out.as_deref() {
+        None => answer,
+        Some(out) if out == "-" => answer,
+        Some(out) => {
+            output::save(out, answer.as_bytes())?;
+            match request.options.json {
+                true => Json::object([("out", Json::text(shown(out)))]).line(),
+                false => format!("{}: written\n", shown(out)),
+            }
+        }
+    };
+    let refusal = sections.iter().find_map(|section| section.refusal.as_ref());
+    Ok(match refusal {
+        None => Outcome::accepted(answer),
+        Some(refusal) => Outcome::refused(answer, refusal.line()),
+    })
+}
+
+/// Colours are for a terminal that can show them, and for who wants them.
+fn coloured(request: &Request) -> bool {
+    let set = |name| std::env::var_os(name).is_some_and(|value| !value.is_empty());
+    let dumb = std::env::var_os("TERM").is_none_or(|terminal| terminal == "dumb");
+    request.options.out.is_none() && !set("NO_COLOR") && !dumb && std::io::stdout().is_terminal()
+}

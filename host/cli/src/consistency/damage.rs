@@ -1,0 +1,107 @@
+//! Bytes damaged in one place, so that the refusal is known.
+
+use crate::descriptor::Descriptor;
+use crate::tokens::{Order, Part};
+
+use super::grow::Random;
+
+/// Copies of a descriptor that are refused in this row, with the numbers.
+pub fn of_row(types: &Descriptor, row: usize) -> Vec<(Vec<u8>, u32)> {
+    let of = &types.rows[row];
+    let start = usize::from(of.start);
+    let changed = |changes: &[(usize, u8)]| {
+        let mut bytes = types.bytes.to_vec();
+        for (behind, byte) in changes {
+            bytes[start + behind] = *byte;
+        }
+        bytes
+    };
+    let high = types.bytes[start];
+    let low = types.bytes[start + 1];
+    let mut damaged = vec![
+        (changed(&[(0, high | 0x80)]), 3),
+        (changed(&[(1, low | 1)]), 4),
+        (changed(&[(0, 0), (1, 2)]), 4),
+        (changed(&[(0, 0x7F), (1, 0xFE)]), 4),
+        (changed(&[(3, 0x32)]), 5),
+    ];
+    match of.code {
+        0x15..=0x17 | 0x50 => damaged.push((changed(&[(4, 0), (5, 0)]), 9)),
+        0x19..=0x1E => {
+            damaged.push((changed(&[(4, 0), (5, 10)]), 9));
+            damaged.push((changed(&[(7, 9)]), 10));
+        }
+        0x40 => {
+            damaged.push((changed(&[(4, 0), (5, 5)]), 9));
+            damaged.push((changed(&[(7, 0)]), 10));
+        }
+        0x30 => damaged.push((changed(&[(4, 0x7F)]), 10)),
+        _ => {}
+    }
+    if types.name(row).is_some() {
+        let length = usize::from(of.name_place) - 1 - start;
+        damaged.push((changed(&[(length, 0xFF)]), 11));
+    }
+    damaged
+}
+
+/// How many bytes the part's first piece has, which is refused as a whole.
+fn piece(types: &Descriptor, part: &Part) -> usize {
+    match types.rows[part.row].code {
+        0x40 => 4 * part.sizes.len(),
+        _ => part.bytes.len(),
+    }
+}
+
+/// Copies of data that are refused in this part, with the numbers. A cluster has no
+/// piece of its own.
+pub fn of_part(
+    random: &mut Random,
+    types: &Descriptor,
+    data: &[u8],
+    order: Order,
+    part: &Part,
+) -> Vec<(Vec<u8>, u32)> {
+    let start = part.bytes.start;
+    let code = types.rows[part.row].code;
+    if code == 0x50 {
+        return Vec::new();
+    }
+    let kept = start + random.below(piece(types, part));
+    let mut damaged = vec![(data[..kept].to_vec(), 21)];
+    let mut word = |at: usize, bytes: Vec<u8>, number| {
+        let mut copy = data.to_vec();
+        let turned = bytes.iter().rev().copied().collect();
+        let bytes: Vec<u8> = if order == Order::Big { bytes } else { turned };
+        copy[at..at + bytes.len()].copy_from_slice(&bytes);
+        damaged.push((copy, number));
+    };
+    match code {
+        0x30 => word(start, vec![0x80, 0, 0, 0], 22),
+        0x40 => {
+            let size = random.below(part.sizes.len());
+            word(start + 4 * size, vec![0xFF; 4], 22);
+        }
+        0x15..=0x17 => {
+            let count = u32::from(types.rows[part.row].count).to_be_bytes();
+            word(start, count[4 - part.bytes.len()..].to_vec(), 23);
+        }
+        0x21 => word(start, vec![2], 24),
+        _ => {}
+    }
+    damaged
+}
+
+/// Bytes with something changed, left out or added somewhere.
+pub fn anywhere(random: &mut Random, bytes: &[u8]) -> Vec<u8> {
+    let mut damaged = bytes.to_vec();
+    let at = random.below(bytes.len());
+    match random.below(5) {
+        0 => damaged.truncate(at),
+        1 => damaged.insert(at, random.byte()),
+        2 => drop(damaged.remove(at)),
+        3 => damaged[at] = random.byte(),
+        _ => damaged[at] ^= 1 << random.below(8),
+    }
+    damaged
+}

@@ -1,0 +1,206 @@
+//! Bytes and what they are, field by field, to be shown as text or as a page.
+
+pub mod page;
+pub mod text;
+
+use kerbcanopy::Answer;
+
+use crate::content::{self, ELEMENTS};
+use crate::descriptor::Descriptor;
+use crate::input::Input;
+use crate::json::Json;
+use crate::layout::{self, Field, Sort};
+use crate::refusal::{Lent, Refusal, answer_json};
+use crate::tokens::{self, Found, Order, Part};
+use crate::words::{counted, kind, quoted};
+
+/// One input, explained.
+pub struct Section<'a> {
+    /// What input it is.
+    pub title: &'static str,
+    pub file: &'a Input,
+    pub answer: Answer,
+    /// Together they are all the bytes, in order.
+    pub fields: Vec<Field>,
+    pub verdict: String,
+    pub refusal: Option<Refusal>,
+}
+
+impl<'a> Section<'a> {
+    pub fn descriptor(file: &'a Input) -> Section<'a> {
+        let answer = kerbcanopy::check_descriptor(&file.bytes).answer;
+        let refusal = Refusal::of(answer, &Lent::descriptors(file, None));
+        let types = counted(answer.place as usize, "type");
+        let fields = layout::of(&file.bytes, answer).fields;
+        Section::new("descriptor", file, answer, fields, types, refusal)
+    }
+
+    /// Data under a descriptor that is accepted.
+    pub fn data(descriptor: &Input, file: &'a Input, all: bool) -> Section<'a> {
+        let answer = kerbcanopy::check_data(&descriptor.bytes, &file.bytes);
+        let refusal = Refusal::of(answer, &Lent::data(descriptor, file));
+        let pieces = counted(answer.place as usize, "piece");
+        let fields = match Descriptor::of(&descriptor.bytes) {
+            Some(types) => data_fields(&types, &file.bytes, answer, all),
+            None => Vec::new(),
+        };
+        Section::new("data", file, answer, fields, pieces, refusal)
+    }
+
+    fn new(
+        title: &'static str,
+        file: &'a Input,
+        answer: Answer,
+        fields: Vec<Field>,
+        counted_parts: String,
+        refusal: Refusal,
+    ) -> Section<'a> {
+        let length = counted(file.bytes.len(), "byte");
+        let verdict = match answer.number {
+            0 => format!("{length}, accepted, {counted_parts}"),
+            // No more is read of an input that is too long.
+            1 | 20 => format!("refused with {}", answer.number),
+            number => format!("{length}, refused with {number}"),
+        };
+        Section {
+            title,
+            file,
+            answer,
+            fields,
+            verdict,
+            refusal: (answer.number != 0).then_some(refusal),
+        }
+    }
+
+    /// The byte to be marked; it may be the one behind the last.
+    pub fn place(&self) -> Option<usize> {
+        (self.answer.number != 0).then_some(self.answer.place as usize)
+    }
+
+    pub fn json(&self) -> Json {
+        let answer = match &self.refusal {
+            Some(refusal) => refusal.json(),
+            None => answer_json(self.answer).with([("file", Json::text(&self.file.name))]),
+        };
+        let fields = self.fields.iter().map(|field| {
+            Json::object([
+                ("start", Json::size(field.bytes.start)),
+                ("length", Json::size(field.bytes.len())),
+                ("depth", Json::size(field.depth)),
+                (
+                    "sort",
+                    Json::text(format!("{:?}", field.sort).to_lowercase()),
+                ),
+                ("text", Json::text(&field.text)),
+            ])
+        });
+        Json::object([("title", Json::text(self.title))])
+            .with([("answer", answer), ("fields", Json::list(fields))])
+    }
+}
+
+fn data_fields(types: &Descriptor, data: &[u8], answer: Answer, all: bool) -> Vec<Field> {
+    let most = if all { u64::MAX } else { ELEMENTS };
+    let walked = tokens::walk(types, data, answer, Order::Big, most);
+    let mut fields = Vec::new();
+    for found in &walked.found {
+        match found {
+            Found::Part(part) => part_fields(types, data, part, all, &mut fields),
+            Found::More(more) => fields.push(Field {
+                bytes: more.bytes.clone(),
+                depth: more.path.len() + 1,
+                sort: Sort::More,
+                text: format!(".. {} more elements", more.count),
+            }),
+        }
+    }
+    let mut end = walked.end;
+    if let Some(fault) = &walked.fault {
+        let start = end;
+        end = fault_end(types, fault.row, start, data.len(), answer);
+        fields.push(Field {
+            bytes: start..end,
+            depth: fault.path.len(),
+            sort: Sort::Fault,
+            text: format!("{}: refused", label(types, fault.row, &fault.path)),
+        });
+    }
+    if end < data.len() {
+        let text = match answer.number {
+            25 => "bytes left over",
+            _ => "not read",
+        };
+        fields.push(Field {
+            bytes: end..data.len(),
+            depth: 0,
+            sort: Sort::Rest,
+            text: text.into(),
+        });
+    }
+    fields
+}
+
+/// Where the bytes end that the refused piece was judged by: its number, its
+/// length or its sizes, or all that is there of a piece that is not whole.
+fn fault_end(types: &Descriptor, row: usize, start: usize, end: usize, answer: Answer) -> usize {
+    let length = match (answer.number, types.width(row)) {
+        (21, _) => return end,
+        (_, Some(width)) => width,
+        (_, None) => 4 * usize::from(types.rows[row].count.max(1)),
+    };
+    end.min(start + length)
+}
+
+fn part_fields(types: &Descriptor, data: &[u8], part: &Part, all: bool, fields: &mut Vec<Field>) {
+    let start = part.bytes.start;
+    let label = label(types, part.row, &part.path);
+    let mut push = |bytes, sort, text| {
+        let depth = part.path.len();
+        fields.push(Field {
+            bytes,
+            depth,
+            sort,
+            text,
+        })
+    };
+    match types.rows[part.row].code {
+        0x50 => push(start..start, Sort::Heading, label),
+        0x40 => {
+            for (dimension, size) in part.sizes.iter().enumerate() {
+                let at = start + 4 * dimension;
+                let text = match dimension {
+                    0 => format!("{label}, size {size}"),
+                    _ => format!("size {size}"),
+                };
+                push(at..at + 4, Sort::Count, text);
+            }
+        }
+        0x30 => {
+            let length = part.bytes.len() - 4;
+            let text = format!("{label}, length {length}");
+            push(start..start + 4, Sort::Size, text);
+            if length > 0 {
+                let characters = start + 4..part.bytes.end;
+                let text = content::characters(&data[characters.clone()], all);
+                push(characters, Sort::Text, text);
+            }
+        }
+        _ => {
+            let number = content::number(types, part.row, &data[part.bytes.clone()]);
+            push(
+                part.bytes.clone(),
+                Sort::Number,
+                format!("{label} = {number}"),
+            );
+        }
+    }
+}
+
+/// A part's last step, its name and its type.
+fn label(types: &Descriptor, row: usize, path: &[u32]) -> String {
+    let step = path.last().map(u32::to_string);
+    let name = types.name(row).map(quoted);
+    let words = [step, name, Some(kind(types, row))];
+    let words: Vec<String> = words.into_iter().flatten().collect();
+    words.join(" ")
+}

@@ -1,0 +1,323 @@
+//! The words of the command line: options, operands, standard input, help.
+
+use std::ffi::OsString;
+use std::os::unix::ffi::OsStringExt;
+
+use crate::common::descriptors::descriptor;
+use crate::common::{Folder, sample};
+
+const COMMANDS: [&str; 11] = [
+    "check", "compare", "normal", "data", "dump", "explain", "value", "view", "little", "big",
+    "read",
+];
+
+fn rig(test: &str) -> Folder {
+    let names = [
+        "rig.hex",
+        "reader.hex",
+        "data/rig.hex",
+        "data/rig-little.hex",
+    ];
+    Folder::with_samples(test, &names)
+}
+
+#[test]
+fn options_stand_before_among_and_behind_the_operands() {
+    let folder = rig("arguments-options");
+    for words in [
+        &["-o", "out", "little", "rig.hex", "data-rig.hex"][..],
+        &["little", "-o", "out", "rig.hex", "data-rig.hex"],
+        &["little", "rig.hex", "-o", "out", "data-rig.hex"],
+        &["little", "rig.hex", "data-rig.hex", "-o", "out"],
+        &["little", "rig.hex", "data-rig.hex", "--output", "out"],
+        &["little", "--output=out", "rig.hex", "data-rig.hex"],
+        &["little", "-o", "out", "--", "rig.hex", "data-rig.hex"],
+    ] {
+        folder.run(words).gives("out: 6 bytes written\n");
+        assert_eq!(folder.read("out"), [0x19, 0, 9, 0, 0, 0]);
+        std::fs::remove_file(folder.path.join("out")).expect("it is there");
+    }
+    for words in [
+        &["--json", "value", "rig.hex", "data-rig.hex", "id"][..],
+        &["value", "--json", "rig.hex", "data-rig.hex", "id"],
+        &["value", "rig.hex", "--json", "data-rig.hex", "id"],
+        &["value", "rig.hex", "data-rig.hex", "id", "--json"],
+    ] {
+        assert_eq!(folder.run(words).json().at("text").text(), "9");
+    }
+}
+
+#[test]
+fn words_need_not_be_utf_8() {
+    let folder = rig("arguments-bytes");
+    let of = |bytes: &[u8]| OsString::from_vec(bytes.to_vec());
+    let words = ["normal", "rig.hex"].map(OsString::from);
+    for option in [&[of(b"--output=\xFF=a")][..], &[of(b"-o"), of(b"\xFF=a")]] {
+        folder
+            .run(&[&words[..], option].concat())
+            .gives("\\xFF=a: 20 bytes written\n");
+        std::fs::remove_file(folder.path.join(of(b"\xFF=a"))).expect("it is there");
+    }
+    let wrong = folder.run(&[&words[..], &[of(b"--\xFF=1")]].concat());
+    wrong.troubles("there is no option --\\xFF; see kerbcanopy --help");
+    let wrong = folder.run(&[of(b"\xFE")]);
+    wrong.troubles("there is no command \\xFE; see kerbcanopy --help");
+}
+
+#[test]
+fn dashes_end_the_options() {
+    let folder = Folder::new("arguments-dashes");
+    folder.put("--all", &descriptor(0x03, &[]));
+    let answer = "--all: accepted, 1 type\n  signed 32-bit integer, 4 bytes at 0\n";
+    folder.run(&["check", "--", "--all"]).gives(answer);
+    folder.run(&["--", "check", "--all"]).gives(answer);
+    folder
+        .run(&["check", "--all"])
+        .troubles("check needs a DESCRIPTOR; see kerbcanopy check --help");
+    folder
+        .run(&["check", "--", "--", "--all"])
+        .troubles("check can't take --all as well; see kerbcanopy check --help");
+}
+
+/// The words of every command, with `-` for each file in turn.
+const FED: [(&[&str], &str); 18] = [
+    (&["check", "-"], "rig.hex"),
+    (&["compare", "-", "rig.hex"], "rig.hex"),
+    (&["compare", "rig.hex", "-"], "rig.hex"),
+    (&["normal", "-"], "rig.hex"),
+    (&["data", "-", "data-rig.hex"], "rig.hex"),
+    (&["data", "rig.hex", "-"], "data-rig.hex"),
+    (&["dump", "-", "data-rig.hex"], "rig.hex"),
+    (&["dump", "rig.hex", "-"], "data-rig.hex"),
+    (&["explain", "-", "data-rig.hex"], "rig.hex"),
+    (&["explain", "rig.hex", "-"], "data-rig.hex"),
+    (&["value", "rig.hex", "-", "id"], "data-rig.hex"),
+    (&["view", "-", "data-rig.hex", "id"], "rig.hex"),
+    (&["little", "rig.hex", "-"], "data-rig.hex"),
+    (&["big", "-", "data-rig-little.hex"], "rig.hex"),
+    (&["big", "rig.hex", "-"], "data-rig-little.hex"),
+    (&["read", "-", "reader.hex", "data-rig.hex"], "rig.hex"),
+    (&["read", "rig.hex", "-", "data-rig.hex"], "reader.hex"),
+    (&["read", "rig.hex", "reader.hex", "-"], "data-rig.hex"),
+];
+
+#[test]
+fn a_dash_is_standard_input() {
+    let folder = rig("arguments-stdin");
+    for (words, file) in FED {
+        let named: Vec<&str> = words
+            .iter()
+            .map(|word| if *word == "-" { file } else { word })
+            .collect();
+        let expected = folder.run(&named);
+        let fed = folder.feed(&[words, &["--hex"]].concat(), &folder.read(file));
+        assert_eq!(fed.status, 0, "{words:?}");
+        let named = expected
+            .text()
+            .replace(&format!("{file}: "), "standard input: ");
+        let fed = fed.text().replace(&format!("{file}: "), "standard input: ");
+        assert_eq!(fed, named, "{words:?}");
+    }
+    let raw = folder.feed(&["check", "-"], &descriptor(0x03, &[]));
+    raw.gives("standard input: accepted, 1 type\n  signed 32-bit integer, 4 bytes at 0\n");
+    let refused = folder.feed(&["check", "-"], b"");
+    refused.refuses(
+        "standard input: refused with 2: fewer than 4 bytes are left where a descriptor should \
+         start (input 1, the descriptor; place 0): [end]",
+    );
+}
+
+#[test]
+fn standard_input_is_read_once() {
+    let folder = rig("arguments-twice");
+    for words in [
+        &["compare", "-", "-"][..],
+        &["data", "-", "-"],
+        &["dump", "-", "-"],
+        &["explain", "-", "-"],
+        &["value", "-", "-"],
+        &["view", "-", "-", "0"],
+        &["little", "-", "-"],
+        &["big", "-", "-"],
+        &["read", "-", "rig.hex", "-"],
+    ] {
+        let line = format!(
+            "{0} can read standard input once; see kerbcanopy {0} --help",
+            words[0]
+        );
+        folder.run(words).troubles(&line);
+    }
+    // A step may be a dash; it is a name.
+    folder
+        .feed(
+            &["value", "rig.hex", "-", "-", "--hex"],
+            &sample("data/rig.hex"),
+        )
+        .troubles("rig.hex: no member has the name -");
+}
+
+#[test]
+fn text_is_told_by_the_name_or_the_option() {
+    let folder = rig("arguments-hex");
+    for name in ["A.HEX", "a.Hex", "b.c.hex"] {
+        folder.put(name, b"0004 0003 # an integer");
+        assert_eq!(folder.run(&["check", name]).status, 0, "{name}");
+    }
+    folder.put("rig.txt", &sample("rig.hex"));
+    assert_eq!(folder.run(&["check", "rig.txt"]).status, 1);
+    assert_eq!(folder.run(&["check", "--hex", "rig.txt"]).status, 0);
+    assert_eq!(folder.feed(&["check", "-"], &sample("rig.hex")).status, 1);
+    assert_eq!(
+        folder
+            .feed(&["check", "-", "--hex"], &sample("rig.hex"))
+            .status,
+        0
+    );
+    folder.put("raw", &descriptor(0x03, &[]));
+    folder
+        .run(&["check", "--hex", "raw"])
+        .troubles("raw: line 1: '\\x00' is no hexadecimal digit");
+}
+
+#[test]
+fn help_goes_to_standard_output() {
+    let folder = Folder::new("arguments-help");
+    let whole = folder.run(&["--help"]);
+    assert_eq!(whole.status, 0);
+    assert!(whole.text().starts_with("usage: kerbcanopy COMMAND ..\n\n"));
+    folder.run(&["-h"]).gives(whole.text());
+    for command in COMMANDS {
+        assert!(
+            whole.text().contains(&format!("\n  {command} ")),
+            "{command}"
+        );
+        let one = folder.run(&[command, "--help"]);
+        assert_eq!(one.status, 0);
+        assert!(
+            one.text()
+                .starts_with(&format!("usage: kerbcanopy {command} "))
+        );
+        for words in [
+            &[command, "-h"][..],
+            &["--help", command],
+            &[command, "missing", "--help"],
+            &[command, "a", "b", "c", "d", "--html", "--help"],
+        ] {
+            folder.run(words).gives(one.text());
+        }
+    }
+}
+
+#[test]
+fn the_version_goes_to_standard_output() {
+    let folder = Folder::new("arguments-version");
+    let version = format!("kerbcanopy {}\n", env!("CARGO_PKG_VERSION"));
+    folder.run(&["--version"]).gives(&version);
+    folder.run(&["-V"]).gives(&version);
+    for command in COMMANDS {
+        folder.run(&[command, "--version"]).gives(&version);
+        folder.run(&["-V", command, "missing"]).gives(&version);
+    }
+}
+
+/// Words that are no use of the command, and what is said of them.
+const WRONG: [(&[&str], &str); 21] = [
+    (&[], "no command; see kerbcanopy --help"),
+    (&["--json", "--hex"], "no command; see kerbcanopy --help"),
+    (&["look"], "there is no command look; see kerbcanopy --help"),
+    (&[""], "there is no command ; see kerbcanopy --help"),
+    (
+        &["\u{1b}[2J\n"],
+        "there is no command \\x1B[2J\\x0A; see kerbcanopy --help",
+    ),
+    (
+        &["check", "a", "--loud"],
+        "there is no option --loud; see kerbcanopy --help",
+    ),
+    (
+        &["check", "a", "--\u{7}"],
+        "there is no option --\\x07; see kerbcanopy --help",
+    ),
+    (
+        &["check", "a", "-x"],
+        "there is no option -x; see kerbcanopy --help",
+    ),
+    (
+        &["check", "a", "--all=1"],
+        "there is no option --all; see kerbcanopy --help",
+    ),
+    (
+        &["look", "--help"],
+        "there is no command look; see kerbcanopy --help",
+    ),
+    (
+        &["dump", "a", "b", "--table"],
+        "dump takes no --table; see kerbcanopy dump --help",
+    ),
+    (
+        &["data", "a", "b", "-o", "c"],
+        "data takes no -o; see kerbcanopy data --help",
+    ),
+    (
+        &["view", "a", "b", "--room", "1"],
+        "view takes no --room; see kerbcanopy view --help",
+    ),
+    (&["normal", "a", "-o"], "-o needs the name of a file"),
+    (&["normal", "a", "-o", ""], "-o needs the name of a file"),
+    (&["normal", "a", "--output="], "-o needs the name of a file"),
+    (&["normal", "a", "--room"], "--room needs a number of bytes"),
+    (
+        &["normal", "a", "--room", "-1"],
+        "--room needs a number of bytes",
+    ),
+    (
+        &["normal", "a", "--room=1k"],
+        "--room needs a number of bytes",
+    ),
+    (
+        &["explain", "a", "--html", "--json"],
+        "explain gives --html or --json, not both; see kerbcanopy explain --help",
+    ),
+    (
+        &["little", "a", "b", "--json", "-o", "-"],
+        "little can't give --json and -o - in one; see kerbcanopy little --help",
+    ),
+];
+
+#[test]
+fn a_wrong_use_is_told_in_one_line() {
+    let folder = Folder::new("arguments-wrong");
+    for (words, line) in WRONG {
+        let ran = folder.run(words);
+        assert_eq!((ran.status, ran.complaint()), (2, line), "{words:?}");
+    }
+}
+
+#[test]
+fn each_command_has_as_many_files_as_it_needs() {
+    let folder = Folder::new("arguments-count");
+    for command in COMMANDS {
+        let (files, optional, steps) = match command {
+            "check" => (&["DESCRIPTOR"][..], 0, false),
+            "normal" => (&["DESCRIPTOR"][..], 0, false),
+            "compare" => (&["FIRST", "SECOND"][..], 0, false),
+            "read" => (&["WRITER", "READER", "DATA"][..], 0, false),
+            "explain" => (&["DESCRIPTOR", "DATA"][..], 1, false),
+            "value" | "view" => (&["DESCRIPTOR", "DATA"][..], 0, true),
+            _ => (&["DESCRIPTOR", "DATA"][..], 0, false),
+        };
+        let see = format!("see kerbcanopy {command} --help");
+        for (given, missing) in files[..files.len() - optional].iter().enumerate() {
+            let words = [vec![command], vec!["a"; given]].concat();
+            folder
+                .run(&words)
+                .troubles(&format!("{command} needs a {missing}; {see}"));
+        }
+        let words = [vec![command], vec!["a"; files.len()], vec!["more"]].concat();
+        let trouble = match steps {
+            false => format!("{command} can't take more as well; {see}"),
+            true => "a: No such file or directory (os error 2)".into(),
+        };
+        folder.run(&words).troubles(&trouble);
+    }
+}

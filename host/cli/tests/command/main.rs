@@ -1,0 +1,23 @@
+//! The command as it is used: the binary on files, with its words, its streams
+//! and its exit status.
+
+#[path = "../common/mod.rs"]
+mod common;
+
+mod arguments;
+mod check;
+mod colour;
+mod compare;
+mod data;
+mod dump;
+mod explain;
+mod files;
+mod json;
+mod limits;
+mod output;
+mod page;
+mod record;
+mod refusals;
+mod replace;
+mod steps;
+mod streams;

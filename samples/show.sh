@@ -1,0 +1,32 @@
+#!/bin/sh
+# What `make run` shows: a record read by name, the same record with its members moved, and a damaged one refused with its byte marked.
+# It runs the command kerbcanopy that stands on the path, from the repository's root.
+set -u
+
+say() {
+    printf '\n%s\n' "$*"
+}
+
+# Exit status 1 and 3 are answers, refused and not equal; only trouble stops the showing.
+run() {
+    printf '> kerbcanopy %s\n' "$*"
+    kerbcanopy "$@" 2>&1
+    [ $? -ne 2 ] || exit 1
+}
+
+say "A rig's descriptor, and a record under it:"
+run check samples/rig.hex
+run dump samples/rig.hex samples/data/rig.hex
+
+say "A reader asks for the identifier by name and type:"
+run read samples/rig.hex samples/reader.hex samples/data/rig.hex
+
+say "The same record with its members moved gives the same bytes:"
+run read samples/rig-before.hex samples/reader.hex samples/data/rig-before.hex
+
+say "So does a rig that sets the reserved bytes:"
+run compare samples/rig.hex samples/rig-reserved.hex
+run read samples/rig-reserved.hex samples/reader.hex samples/data/rig.hex
+
+say "A record that was cut gives nothing. It is refused, and its byte is marked:"
+run read samples/rig.hex samples/reader.hex samples/data/rig-cut.hex
