@@ -37,11 +37,11 @@ ofDouble (double.Nan bits) = DoubleNan bits
 -- the value of the code c whose bytes are the number v; `Nothing` where there is "no single number"
 unfoldable pub valueOf : ℕ → ℕ → Value
 valueOf c v =
-    cond (between 1 4 c) (Signed (signed (widthOf c) v))
-    (cond (between 5 8 c || between 21 23 c) (Unsigned v)
-    (cond (eqb c 9 || eqb c 25) (ofSingle (singleOf v))
-    (cond (eqb c 10 || eqb c 26) (ofDouble (doubleOf v))
-    (cond (eqb c 33) (Flag (eqb v 1))
+    cond (between 0x01 0x04 c) (Signed (signed (widthOf c) v))
+    (cond (between 0x05 0x08 c || between 0x15 0x17 c) (Unsigned v)
+    (cond (eqb c 0x09 || eqb c 0x19) (ofSingle (singleOf v))
+    (cond (eqb c 0x0A || eqb c 0x1A) (ofDouble (doubleOf v))
+    (cond (eqb c 0x21) (Flag (eqb v 1))
     Nothing))))
 
 -- whether there is a value

@@ -1,5 +1,5 @@
 -- Demand 1, what an output buffer holds after an answer: "A refusal changes nothing in any output buffer."
--- The public entry whose contract uses these definitions is normal_form. Rests on the definitions of the outputs alone.
+-- The public entries whose contracts use these definitions are normal_form and read_record. Rests on the definitions of the outputs alone.
 use mathlib.Core.Path.{_≡_, refl}
 use mathlib.Core.Logic.{_≢_}
 use mathlib.Core.Bool.{Bool, true, false, cond}

@@ -58,7 +58,7 @@ abbrev over : List ℕ
 over = 0x80 ∷ 0x00 ∷ 0x00 ∷ 0x00 ∷ []
 
 -- a size or length word below 256
-abbrev few : ℕ → List ℕ
+abbrev pub few : ℕ → List ℕ
 few n = 0x00 ∷ 0x00 ∷ 0x00 ∷ n ∷ []
 
 -- refused at a place of the data
@@ -167,7 +167,7 @@ unfolding signed singleOf doubleOf nanBits widthOf ofSingle ofDouble valueOf val
 value-kinds = (refl, refl, refl, refl, refl, refl, refl, refl, refl)
 
 -- accepted with n bytes written
-abbrev wrote : ℕ → List ℕ → Written
+abbrev pub wrote : ℕ → List ℕ → Written
 wrote n out = record { answer = accepted n; out = out }
 
 -- "each integer, enumeration, real number, half of a complex number, string length and size word. Booleans and characters stay."; 50, "output too

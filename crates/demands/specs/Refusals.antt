@@ -88,7 +88,7 @@ pub order : (answer (0x80 ∷ 0x05 ∷ 0x00 ∷ 0x03 ∷ []) ≡ at 3 0)
     × (answer (0x00 ∷ 0x0A ∷ 0x00 ∷ 0x19 ∷ 0x00 ∷ 0x02 ∷ 0x00 ∷ 0x09 ∷ 0x00 ∷ 0x01 ∷ []) ≡ at 8 0)
     -- a wrong dimension word, and no element
     × (answer (0x00 ∷ 0x0A ∷ 0x00 ∷ 0x40 ∷ 0x00 ∷ 0x01 ∷ (replicate 4 0xFE)) ≡ at 10 0)
-    -- a member that is refused, in a cluster with no name; that cluster, with bytes after it
+    -- a member that is refused, in a cluster whose rest is no name; a rest that is no name, with a byte after the descriptor
     × (answer (0x00 ∷ 0x0C ∷ 0x00 ∷ 0x50 ∷ 0x00 ∷ 0x01 ∷ 0x00 ∷ 0x04 ∷ 0x00 ∷ 0x00 ∷ 0x02 ∷ 0x61 ∷ []) ≡ at 5 6)
     × (answer (0x00 ∷ 0x06 ∷ 0x00 ∷ 0x03 ∷ 0x02 ∷ 0x61 ∷ 0x00 ∷ []) ≡ at 11 0)
 unfolding be beBytes kindOf childCount countOf itemsSize fieldsSize nameSize treeSize forestSize rowCount forestRows headerAt countAt runAt itemAt itemsAt pairsAt fieldsRead judged contentsAt fillAt filledAt fieldsAt membersAt nameAt nodeAt treeAt checked descriptorCheck answer within nested
