@@ -1,3 +1,4 @@
 pub mod Cases
 pub mod DataCases
+pub mod LentCases
 pub mod Refusals

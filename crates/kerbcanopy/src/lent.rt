@@ -53,14 +53,16 @@ pub extern "C" fn kc_normal_form_into(descriptor: &[u8], out: &mut [u8], answer:
     ensures answer { λ _. ⌜ now (answer .exit) ≡ answerNumbers (normalForm (now (descriptor .entry)) (now (out .entry)) .answer) ⌝ }
     ensures wrote { λ _. ⌜ now (out .exit) ≡ normalForm (now (descriptor .entry)) (now (out .entry)) .out ⌝ }
 {
-    put_answer(canonical::normal::normal_form(descriptor, out), answer);
+    let normal = canonical::normal::normal_form(descriptor, out);
+    put_answer(normal, answer);
 }
 
 #[no_mangle]
 pub extern "C" fn kc_check_data_into(descriptor: &[u8], data: &[u8], answer: &mut [u32; 3])
     ensures { λ _. ⌜ now (answer .exit) ≡ answerNumbers (dataCheck (now (descriptor .entry)) (now («data» .entry))) ⌝ }
 {
-    put_answer(flattened::check::check_data(descriptor, data), answer);
+    let walked = flattened::check::check_data(descriptor, data);
+    put_answer(walked, answer);
 }
 
 // `start` and `length` get where the part starts in the data and how long it is.
@@ -113,10 +115,8 @@ pub extern "C" fn kc_to_little_endian_into(
     ensures answer { λ _. ⌜ now (answer .exit) ≡ answerNumbers (toLittleEndian (now (descriptor .entry)) (now («data» .entry)) (now (out .entry)) .answer) ⌝ }
     ensures wrote { λ _. ⌜ now (out .exit) ≡ toLittleEndian (now (descriptor .entry)) (now («data» .entry)) (now (out .entry)) .out ⌝ }
 {
-    put_answer(
-        byteorder::little::to_little_endian(descriptor, data, out),
-        answer,
-    );
+    let little = byteorder::little::to_little_endian(descriptor, data, out);
+    put_answer(little, answer);
 }
 
 #[no_mangle]
@@ -129,10 +129,8 @@ pub extern "C" fn kc_from_little_endian_into(
     ensures answer { λ _. ⌜ now (answer .exit) ≡ answerNumbers (fromLittleEndian (now (descriptor .entry)) (now («data» .entry)) (now (out .entry)) .answer) ⌝ }
     ensures wrote { λ _. ⌜ now (out .exit) ≡ fromLittleEndian (now (descriptor .entry)) (now («data» .entry)) (now (out .entry)) .out ⌝ }
 {
-    put_answer(
-        byteorder::little::from_little_endian(descriptor, data, out),
-        answer,
-    );
+    let big = byteorder::little::from_little_endian(descriptor, data, out);
+    put_answer(big, answer);
 }
 
 #[no_mangle]
@@ -146,8 +144,6 @@ pub extern "C" fn kc_read_record_into(
     ensures answer { λ _. ⌜ now (answer .exit) ≡ answerNumbers (resolved (now (writer .entry)) (now (reader .entry)) (now («data» .entry)) (now (out .entry)) .answer) ⌝ }
     ensures wrote { λ _. ⌜ now (out .exit) ≡ resolved (now (writer .entry)) (now (reader .entry)) (now («data» .entry)) (now (out .entry)) .out ⌝ }
 {
-    put_answer(
-        resolution::reading::read_record(writer, reader, data, out),
-        answer,
-    );
+    let record = resolution::reading::read_record(writer, reader, data, out);
+    put_answer(record, answer);
 }
