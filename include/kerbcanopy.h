@@ -1,10 +1,10 @@
 /*
  * Kerbcanopy: reads LabVIEW type descriptors and flattened data, and hands a record over in a reader's shape. Any bytes may come.
  *
- * Every function takes bytes, or a path's steps, as a pointer and a length, and asks of the caller only what C can't show: that the
- * pointer is not NULL (and that of a path aligned), that as many of them can be read, or in an output written, as the length says, that
- * nothing else changes them during the call, and that an input and an output do not overlap. Nothing is kept between calls, and nothing
- * is allocated.
+ * Every function takes bytes, or a path's steps, as a pointer and a length, and asks of the caller only what C can't show: that as many of
+ * them can be read, or in an output written, as the length says, that the steps, and numbers lent for an answer, are aligned, that nothing
+ * else changes them during the call, and that an output overlaps no input and no other output. Where the length is 0 the pointer may be
+ * NULL: nothing is read or written through it. Nothing is kept between calls, and nothing is allocated.
  *
  * Every answer has a number, the input at fault and a place.
  *
@@ -60,6 +60,110 @@
 #include <stdbool.h>
 #include <stddef.h>
 #include <stdint.h>
+
+/* The version of this header and of the library that it belongs to. */
+#define KC_VERSION_MAJOR 0
+#define KC_VERSION_MINOR 1
+#define KC_VERSION_PATCH 0
+#define KC_VERSION "0.1.0"
+
+/* The limits. The top of a descriptor is at depth 1; lengths and sizes in data are at most KC_MAX_LENGTH. */
+#define KC_MAX_DESCRIPTOR 4096
+#define KC_MAX_ROWS 256
+#define KC_MAX_DEPTH 8
+#define KC_MAX_DIMENSIONS 4
+#define KC_MAX_UNIT_PAIRS 9
+#define KC_MAX_BASE_INDEX 8
+#define KC_MAX_DATA 65536
+#define KC_MAX_LENGTH 0x7FFFFFFF
+
+/* How many numbers an answer, a row and the table are, where they are lent as numbers. */
+#define KC_ANSWER_NUMBERS 3
+#define KC_ROW_NUMBERS 7
+#define KC_TABLE_NUMBERS (KC_MAX_ROWS * KC_ROW_NUMBERS)
+
+/* The codes that are carried: the low byte of a descriptor's code word. */
+enum kc_code {
+    KC_CODE_I8 = 0x01,
+    KC_CODE_I16 = 0x02,
+    KC_CODE_I32 = 0x03,
+    KC_CODE_I64 = 0x04,
+    KC_CODE_U8 = 0x05,
+    KC_CODE_U16 = 0x06,
+    KC_CODE_U32 = 0x07,
+    KC_CODE_U64 = 0x08,
+    KC_CODE_SINGLE = 0x09,
+    KC_CODE_DOUBLE = 0x0A,
+    KC_CODE_EXTENDED = 0x0B,
+    KC_CODE_COMPLEX_SINGLE = 0x0C,
+    KC_CODE_COMPLEX_DOUBLE = 0x0D,
+    KC_CODE_COMPLEX_EXTENDED = 0x0E,
+    KC_CODE_ENUM_U8 = 0x15,
+    KC_CODE_ENUM_U16 = 0x16,
+    KC_CODE_ENUM_U32 = 0x17,
+    KC_CODE_QUANTITY_SINGLE = 0x19,
+    KC_CODE_QUANTITY_DOUBLE = 0x1A,
+    KC_CODE_QUANTITY_EXTENDED = 0x1B,
+    KC_CODE_QUANTITY_COMPLEX_SINGLE = 0x1C,
+    KC_CODE_QUANTITY_COMPLEX_DOUBLE = 0x1D,
+    KC_CODE_QUANTITY_COMPLEX_EXTENDED = 0x1E,
+    KC_CODE_BOOLEAN = 0x21,
+    KC_CODE_STRING = 0x30,
+    KC_CODE_ARRAY = 0x40,
+    KC_CODE_CLUSTER = 0x50
+};
+
+/* The numbers of the table above. */
+enum kc_number {
+    KC_ACCEPTED = 0,
+    KC_REFUSED_DESCRIPTOR_LENGTH = 1,
+    KC_REFUSED_HEADER = 2,
+    KC_REFUSED_SIZE_BIT = 3,
+    KC_REFUSED_SIZE = 4,
+    KC_REFUSED_CODE = 5,
+    KC_REFUSED_DEPTH = 6,
+    KC_REFUSED_ROWS = 7,
+    KC_REFUSED_BODY = 8,
+    KC_REFUSED_COUNT = 9,
+    KC_REFUSED_CONTENTS = 10,
+    KC_REFUSED_NAME = 11,
+    KC_REFUSED_AFTER_TOP = 12,
+    KC_REFUSED_DATA_LENGTH = 20,
+    KC_REFUSED_DATA_END = 21,
+    KC_REFUSED_LENGTH = 22,
+    KC_REFUSED_ENUMERATION = 23,
+    KC_REFUSED_BOOLEAN = 24,
+    KC_REFUSED_LEFT_OVER = 25,
+    KC_REFUSED_STEP = 30,
+    KC_REFUSED_NO_NUMBER = 31,
+    KC_REFUSED_READER = 40,
+    KC_REFUSED_WRITER = 41,
+    KC_REFUSED_MISSING = 42,
+    KC_REFUSED_DOUBLED = 43,
+    KC_REFUSED_TYPE = 44,
+    KC_REFUSED_ROOM = 50
+};
+
+/* The input at fault. Of two descriptors the first is the writer's, where one is. */
+enum kc_input {
+    KC_INPUT_NONE = 0,
+    KC_INPUT_FIRST = 1,
+    KC_INPUT_WRITER = 1,
+    KC_INPUT_SECOND = 2,
+    KC_INPUT_READER = 2,
+    KC_INPUT_DATA = 3,
+    KC_INPUT_REQUEST = 4
+};
+
+/* The kinds of values, as kc_value has them. */
+enum kc_kind {
+    KC_KIND_NONE = 0,
+    KC_KIND_UNSIGNED = 1,
+    KC_KIND_SIGNED = 2,
+    KC_KIND_SINGLE = 3,
+    KC_KIND_DOUBLE = 4,
+    KC_KIND_FLAG = 5
+};
 
 #ifdef __cplusplus
 extern "C" {
@@ -193,6 +297,49 @@ kc_answer kc_from_little_endian(const uint8_t *descriptor, size_t descriptor_len
  */
 kc_answer kc_read_record(const uint8_t *writer, size_t writer_len, const uint8_t *reader, size_t reader_len,
                          const uint8_t *data, size_t data_len, uint8_t *out, size_t out_len);
+
+/*
+ * The same questions for callers that can't take a struct by value, such as LabVIEW's Call Library Function node. Each of these takes what
+ * the function of its name without `_into` takes, then pointers, none of them NULL, to numbers that are lent for the answer. Every call,
+ * a refusal too, sets each of these numbers to what stands in the struct that the other function returns:
+ *
+ *   answer          number, input and place
+ *   table           the 256 rows one after another, each the seven numbers of a kc_row in their order
+ *   equal           1 for yes, 0 for no
+ *   start, length   those of the kc_part
+ *   kind, bits      those of the kc_value
+ *
+ * `out` is left as the other function leaves it.
+ */
+void kc_check_descriptor_into(const uint8_t *descriptor, size_t descriptor_len,
+                              uint32_t answer[KC_ANSWER_NUMBERS], uint16_t table[KC_TABLE_NUMBERS]);
+
+void kc_compare_into(const uint8_t *first, size_t first_len, const uint8_t *second, size_t second_len,
+                     uint32_t answer[KC_ANSWER_NUMBERS], uint8_t *equal);
+
+void kc_normal_form_into(const uint8_t *descriptor, size_t descriptor_len, uint8_t *out, size_t out_len,
+                         uint32_t answer[KC_ANSWER_NUMBERS]);
+
+void kc_check_data_into(const uint8_t *descriptor, size_t descriptor_len, const uint8_t *data, size_t data_len,
+                        uint32_t answer[KC_ANSWER_NUMBERS]);
+
+void kc_view_into(const uint8_t *descriptor, size_t descriptor_len, const uint8_t *data, size_t data_len,
+                  const uint32_t *path, size_t path_len,
+                  uint32_t answer[KC_ANSWER_NUMBERS], uint64_t *start, uint64_t *length);
+
+void kc_read_value_into(const uint8_t *descriptor, size_t descriptor_len, const uint8_t *data, size_t data_len,
+                        const uint32_t *path, size_t path_len,
+                        uint32_t answer[KC_ANSWER_NUMBERS], uint32_t *kind, uint64_t *bits);
+
+void kc_to_little_endian_into(const uint8_t *descriptor, size_t descriptor_len, const uint8_t *data, size_t data_len,
+                              uint8_t *out, size_t out_len, uint32_t answer[KC_ANSWER_NUMBERS]);
+
+void kc_from_little_endian_into(const uint8_t *descriptor, size_t descriptor_len, const uint8_t *data, size_t data_len,
+                                uint8_t *out, size_t out_len, uint32_t answer[KC_ANSWER_NUMBERS]);
+
+void kc_read_record_into(const uint8_t *writer, size_t writer_len, const uint8_t *reader, size_t reader_len,
+                         const uint8_t *data, size_t data_len, uint8_t *out, size_t out_len,
+                         uint32_t answer[KC_ANSWER_NUMBERS]);
 
 #ifdef __cplusplus
 }

@@ -1,4 +1,5 @@
 pub mod Cases
 pub mod DataCases
 pub mod RecordCases
+pub mod LentCases
 pub mod Refusals

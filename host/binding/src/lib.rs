@@ -4,6 +4,9 @@
 
 mod data;
 mod descriptor;
+#[cfg(test)]
+mod layout;
+pub mod lent;
 mod limits;
 mod raw;
 mod record;

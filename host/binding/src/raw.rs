@@ -125,4 +125,83 @@ unsafe extern "C" {
         out: *mut u8,
         out_len: usize,
     ) -> Answer;
+    pub(crate) fn kc_check_descriptor_into(
+        descriptor: *const u8,
+        descriptor_len: usize,
+        answer: *mut [u32; 3],
+        table: *mut [u16; 1792],
+    );
+    pub(crate) fn kc_compare_into(
+        first: *const u8,
+        first_len: usize,
+        second: *const u8,
+        second_len: usize,
+        answer: *mut [u32; 3],
+        equal: *mut u8,
+    );
+    pub(crate) fn kc_normal_form_into(
+        descriptor: *const u8,
+        descriptor_len: usize,
+        out: *mut u8,
+        out_len: usize,
+        answer: *mut [u32; 3],
+    );
+    pub(crate) fn kc_check_data_into(
+        descriptor: *const u8,
+        descriptor_len: usize,
+        data: *const u8,
+        data_len: usize,
+        answer: *mut [u32; 3],
+    );
+    pub(crate) fn kc_view_into(
+        descriptor: *const u8,
+        descriptor_len: usize,
+        data: *const u8,
+        data_len: usize,
+        path: *const u32,
+        path_len: usize,
+        answer: *mut [u32; 3],
+        start: *mut u64,
+        length: *mut u64,
+    );
+    pub(crate) fn kc_read_value_into(
+        descriptor: *const u8,
+        descriptor_len: usize,
+        data: *const u8,
+        data_len: usize,
+        path: *const u32,
+        path_len: usize,
+        answer: *mut [u32; 3],
+        kind: *mut u32,
+        bits: *mut u64,
+    );
+    pub(crate) fn kc_to_little_endian_into(
+        descriptor: *const u8,
+        descriptor_len: usize,
+        data: *const u8,
+        data_len: usize,
+        out: *mut u8,
+        out_len: usize,
+        answer: *mut [u32; 3],
+    );
+    pub(crate) fn kc_from_little_endian_into(
+        descriptor: *const u8,
+        descriptor_len: usize,
+        data: *const u8,
+        data_len: usize,
+        out: *mut u8,
+        out_len: usize,
+        answer: *mut [u32; 3],
+    );
+    pub(crate) fn kc_read_record_into(
+        writer: *const u8,
+        writer_len: usize,
+        reader: *const u8,
+        reader_len: usize,
+        data: *const u8,
+        data_len: usize,
+        out: *mut u8,
+        out_len: usize,
+        answer: *mut [u32; 3],
+    );
 }

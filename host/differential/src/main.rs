@@ -12,6 +12,7 @@ mod kind;
 mod lent;
 mod options;
 mod output;
+mod proved;
 mod random;
 mod record;
 mod tally;

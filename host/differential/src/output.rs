@@ -49,12 +49,12 @@ impl Room {
     pub fn hold(
         self,
         question: &str,
-        proved: impl FnOnce(&mut [u8]) -> kerbcanopy::Answer,
+        proved: impl FnOnce(&mut [u8]) -> Held<kerbcanopy::Answer>,
         other: impl FnOnce(&mut [u8]) -> Answer,
     ) -> Held<Output> {
         let mut lent = Lent::room(self.length, self.fill, self.around);
         let mut room = vec![self.fill; self.length];
-        let answer = plain(proved(lent.bytes_mut()));
+        let answer = plain(proved(lent.bytes_mut())?);
         demand_same(answer, other(&mut room), question)?;
         let texts = || outputs(lent.bytes(), &room);
         demand(lent.bytes() == room, question, texts)?;

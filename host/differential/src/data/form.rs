@@ -8,25 +8,26 @@ use crate::answers::demand_same;
 use crate::difference::{Held, demand_guarded};
 use crate::lent::{Around, Lent};
 use crate::output::{Room, in_room, rooms};
+use crate::proved;
 use crate::random::Random;
 use crate::tally::Tally;
 
 /// One of the two questions, as each implementation answers it.
 struct Form {
     name: &'static str,
-    proved: fn(&[u8], &[u8], &mut [u8]) -> kerbcanopy::Answer,
+    proved: proved::Writing,
     other: fn(&[u8], &[u8], &mut [u8]) -> Answer,
 }
 
 const TO_LITTLE_ENDIAN: Form = Form {
     name: "to_little_endian",
-    proved: kerbcanopy::to_little_endian,
+    proved: proved::to_little_endian,
     other: reference::to_little_endian,
 };
 
 const FROM_LITTLE_ENDIAN: Form = Form {
     name: "from_little_endian",
-    proved: kerbcanopy::from_little_endian,
+    proved: proved::from_little_endian,
     other: reference::from_little_endian,
 };
 

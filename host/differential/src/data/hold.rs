@@ -12,6 +12,7 @@ use super::form;
 use crate::answers::{accepted, demand_same, request};
 use crate::difference::{Held, demand, demand_guarded, plain};
 use crate::lent::{Around, Lent};
+use crate::proved;
 use crate::random::Random;
 use crate::tally::Tally;
 
@@ -66,7 +67,7 @@ impl Hold<'_> {
         let case = self.case;
         let answer = reference::check_data(&case.descriptor, &case.data.big);
         for (descriptor, data) in self.descriptors.iter().zip(&self.data) {
-            let proved = plain(kerbcanopy::check_data(descriptor.bytes(), data.bytes()));
+            let proved = plain(proved::check_data(descriptor.bytes(), data.bytes())?);
             demand_same(proved, answer, "check_data")?;
         }
         if let Some(stated) = case.answer {
@@ -83,7 +84,7 @@ impl Hold<'_> {
     fn view(&mut self, ask: &Ask, checked: Answer) -> Held<()> {
         let path = Lent::new(&ask.path, &[], self.around);
         let [descriptor, data] = [self.descriptors[0].bytes(), self.data[0].bytes()];
-        let proved = kerbcanopy::view(descriptor, data, path.items());
+        let proved = proved::view(descriptor, data, path.items())?;
         let proved = (plain(proved.answer), proved.start, proved.length);
         let part = reference::view(&self.case.descriptor, &self.case.data.big, &ask.path);
         let part = (part.answer, part.start, part.length);
@@ -100,7 +101,7 @@ impl Hold<'_> {
     fn read_value(&mut self, ask: &Ask, checked: Answer) -> Held<()> {
         let path = Lent::new(&ask.path, &[], self.around.other());
         let [descriptor, data] = [self.descriptors[1].bytes(), self.data[1].bytes()];
-        let proved = kerbcanopy::read_value(descriptor, data, path.items());
+        let proved = proved::read_value(descriptor, data, path.items())?;
         let proved = (plain(proved.answer), proved.kind, proved.bits);
         let value = reference::read_value(&self.case.descriptor, &self.case.data.big, &ask.path);
         let value = (value.answer, value.kind, value.bits);

@@ -6,6 +6,7 @@ use reference::{Answer, MOST_ROWS};
 use super::case::{Case, Partner};
 use crate::difference::{Held, demand, demand_guarded, outputs, plain};
 use crate::lent::{Around, Lent};
+use crate::proved;
 use crate::random::Random;
 use crate::tally::Tally;
 
@@ -47,7 +48,7 @@ impl Hold<'_> {
         let here = Lent::new(&self.case.bytes, &self.case.beyond, self.around);
         let there = Lent::new(&self.case.bytes, &[], self.around.other());
         for lent in [here, there] {
-            let proved = kerbcanopy::check_descriptor(lent.bytes());
+            let proved = proved::check_descriptor(lent.bytes())?;
             let same = same_table(&proved, &checked);
             let texts = || [proved_text(&proved), checked_text(&checked)];
             demand(same, "check_descriptor", texts)?;
@@ -100,7 +101,7 @@ impl Hold<'_> {
         let question = format!("normal_form, room {room}");
         let mut proved = Lent::room(room, fill, self.around);
         let mut other = Lent::room(room, fill, self.around);
-        let proved_answer = plain(kerbcanopy::normal_form(lent.bytes(), proved.bytes_mut()));
+        let proved_answer = plain(proved::normal_form(lent.bytes(), proved.bytes_mut())?);
         let answer = reference::normal_form(&self.case.bytes, other.bytes_mut());
         let texts = || [format!("{proved_answer:?}"), format!("{answer:?}")];
         demand(proved_answer == answer, &question, texts)?;
@@ -127,7 +128,7 @@ impl Hold<'_> {
         let case = Lent::new(&self.case.bytes, &self.case.beyond, self.around);
         let other = Lent::new(&partner.bytes, &self.case.beyond, self.around.other());
         for (first, second) in [(&case, &other), (&other, &case)] {
-            let proved = kerbcanopy::compare(first.bytes(), second.bytes());
+            let proved = proved::compare(first.bytes(), second.bytes())?;
             let proved = reference::Compared {
                 answer: plain(proved.answer),
                 equal: proved.equal,
@@ -183,21 +184,14 @@ fn words(row: &reference::Row) -> [u16; 7] {
     ]
 }
 
-fn proved_words(row: &kerbcanopy::Row) -> [u16; 7] {
-    let [place, length] = [row.name_place, row.name_length];
-    [
-        row.code, row.start, row.size, row.depth, row.count, place, length,
-    ]
-}
-
 fn same_table(proved: &kerbcanopy::Checked, checked: &reference::Checked) -> bool {
     let mut rows = proved.rows.iter().zip(&checked.rows);
     plain(proved.answer) == checked.answer
-        && rows.all(|(one, other)| proved_words(one) == words(other))
+        && rows.all(|(one, other)| proved::words(one) == words(other))
 }
 
 fn proved_text(proved: &kerbcanopy::Checked) -> String {
-    table_text(plain(proved.answer), proved.rows.iter().map(proved_words))
+    table_text(plain(proved.answer), proved.rows.iter().map(proved::words))
 }
 
 fn checked_text(checked: &reference::Checked) -> String {

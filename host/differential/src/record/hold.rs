@@ -8,6 +8,7 @@ use crate::answers::{accepted, demand_same};
 use crate::difference::{Held, demand, demand_guarded, outputs};
 use crate::lent::{Around, Lent};
 use crate::output::{Output, Room, in_room, rooms};
+use crate::proved;
 use crate::random::Random;
 use crate::tally::Tally;
 
@@ -139,7 +140,7 @@ impl Asked {
         let [writer, reader, data] = [&self.writer, &self.reader, &self.data].map(Lent::bytes);
         room.hold(
             &question,
-            |out| kerbcanopy::read_record(writer, reader, data, out),
+            |out| proved::read_record(writer, reader, data, out),
             |out| reference::read_record(writer, reader, data, out),
         )
     }
