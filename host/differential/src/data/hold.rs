@@ -76,7 +76,7 @@ impl Hold<'_> {
         if descriptor.number != 0 {
             demand_same(answer, descriptor, "check_data, against check_descriptor")?;
         }
-        self.tally.checked(case.kind, answer);
+        self.tally.data(case, answer);
         Ok(answer)
     }
 
@@ -93,7 +93,7 @@ impl Hold<'_> {
             Some(Found::Nowhere(step)) => (request(30, step), 0, 0),
             None => part,
         };
-        self.tally.part(part.0);
+        self.tally.viewed(ask, part.0);
         demand_path("view", &path, proved, part, stated)
     }
 
@@ -113,7 +113,7 @@ impl Hold<'_> {
             Some(Found::Nowhere(step)) => (request(30, step), 0, 0),
             None => value,
         };
-        self.tally.value(value.0);
+        self.tally.valued(ask, value.0);
         demand_path("read_value", &path, proved, value, stated)
     }
 }
