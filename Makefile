@@ -1,14 +1,16 @@
 # make run       the command on the samples, refused ones among them
 # make test      the gate, which proves and tests everything
 # make bench     the library and the second implementation, timed side by side
+# make fuzz      the differential test over fresh seeds on every core, for MINUTES
 # make memcheck  the differential test under valgrind, every input in a buffer of its exact size
 # make install   the library, its header and the command, below PREFIX
 PREFIX ?= /usr/local
+MINUTES ?= 10
 ARCHIVE = target/staticlib/libkerbcanopy.a
 COMMAND = host/target/release/kerbcanopy
 HOST = --release --offline --locked --manifest-path host/Cargo.toml --target-dir host/target
 
-.PHONY: run test bench memcheck install library command
+.PHONY: run test bench fuzz memcheck install library command
 
 # rt proves again only what has changed, and builds only what is proved.
 library:
@@ -47,6 +49,9 @@ test:
 
 bench: library
 	cargo run $(HOST) --package bench
+
+fuzz: library
+	cargo run $(HOST) --package differential -- --minutes $(MINUTES)
 
 memcheck: library
 	@command -v valgrind > /dev/null || apt-get install -y valgrind
