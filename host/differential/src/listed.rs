@@ -96,9 +96,7 @@ fn passes(outcome: &Outcome, must: Met) -> bool {
 fn often_enough(all: &Tally) -> bool {
     let wrong = all.wrong(LEAST);
     println!();
-    for wrong in &wrong {
-        println!("met fewer than {LEAST} times, or never to be met: {wrong}");
-    }
+    wrong.iter().for_each(|wrong| println!("{wrong}"));
     if wrong.is_empty() {
         println!("everything met at least {LEAST} times");
     }

@@ -42,6 +42,7 @@ fn main() -> ExitCode {
             return ExitCode::from(2);
         }
     };
+    seed::name_panics();
     let limits = Limits::all();
     let Checks { passed, failed } = match options.run {
         Run::Listed(listed) => listed::run(&listed, &limits, options.exact),

@@ -1,7 +1,9 @@
 //! The cases of one seed, up to the first difference.
 
+use std::cell::Cell;
 use std::num::NonZero;
 use std::ops::Range;
+use std::panic;
 use std::thread::available_parallelism;
 
 use crate::case::{Case, Limits};
@@ -30,6 +32,20 @@ pub struct Found {
     number: u64,
     what: String,
     difference: Difference,
+}
+
+thread_local! {
+    /// The seed and the case that this thread is at.
+    static NOW: Cell<(u64, u64)> = const { Cell::new((0, 0)) };
+}
+
+/// Where either implementation ends a thread instead of answering, says which case
+/// did that.
+pub fn name_panics() {
+    panic::set_hook(Box::new(|info| {
+        let (seed, case) = NOW.get();
+        eprintln!("{info}\nagain with: --seed {seed} --case {case}");
+    }));
 }
 
 /// As many threads as there are cores.
@@ -61,6 +77,7 @@ impl Seed<'_> {
 
     /// Makes one case and holds the two against each other over it.
     fn case(self, number: u64, tally: &mut Tally) -> Option<Found> {
+        NOW.set((self.seed, number));
         let mut random = Random::for_case(self.seed, number);
         let case = Case::make(&mut random, number, self.limits);
         let held: Held<()> = case.hold(&mut random, self.exact, tally);

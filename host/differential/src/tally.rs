@@ -161,7 +161,7 @@ impl Tally {
         NUMBERS.into_iter().filter(|number| !met(number)).collect()
     }
 
-    /// What was met less often than this, or is none of document 01's answers.
+    /// Says what was met less often than this, and what no answer can be.
     pub fn wrong(&self, least: u64) -> Vec<String> {
         let tables = self.tables().into_iter();
         let mut wrong: Vec<String> = tables.flat_map(|table| table.wrong(least)).collect();

@@ -225,8 +225,12 @@ fn packed(random: &mut Random, mut bytes: usize) -> Vec<Vec<u8>> {
     items
 }
 
-/// A judged scalar, a string or a number at any depth, for data.
+/// A judged scalar, a string or a number at any depth, for data, now and then as
+/// the last of as many members as there can be.
 pub fn for_data(random: &mut Random) -> Tree {
+    if random.once_in(30) {
+        return wide(random);
+    }
     let body = match random.below(6) {
         0 => Body::Plain(0x21),
         1 | 2 => {
@@ -244,6 +248,21 @@ pub fn for_data(random: &mut Random) -> Tree {
     let mut tree = buried(random, Tree::unnamed(body), levels);
     beside(random, &mut tree);
     tree
+}
+
+/// A cluster of 256 rows with the top, or one fewer.
+fn wide(random: &mut Random) -> Tree {
+    let count = random.pick(&[252, 253, 253, 253]);
+    let plain = |_| Tree::unnamed(Body::Plain(random.pick(&PLAIN)));
+    let mut members: Vec<Tree> = (0..count).map(plain).collect();
+    let element = Tree::unnamed(Body::Plain(random.pick(&PLAIN)));
+    match random.below(4) {
+        0 => members.push(Tree::unnamed(Body::Array(1, Box::new(element)))),
+        1 => members.extend([Tree::unnamed(Body::Text), element]),
+        2 => members.extend([element, Tree::unnamed(few_items(random))]),
+        _ => members.extend([element, Tree::unnamed(Body::Plain(0x21))]),
+    }
+    Tree::unnamed(Body::Cluster(members))
 }
 
 /// Puts a number or a string in front of or behind some of the members.

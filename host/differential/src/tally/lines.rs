@@ -157,13 +157,13 @@ impl Lines {
         }
     }
 
-    /// The values that were met less often than this.
+    /// Says which values were met less often than this.
     pub fn wrong(&self, least: u64) -> Vec<String> {
         let mut wrong = Vec::new();
         for ((_, what, values), counts) in LINES.iter().zip(&self.0) {
             for (value, count) in values.iter().zip(counts) {
                 if *count < least {
-                    wrong.push(format!("{what} {value}: {count}"));
+                    wrong.push(format!("too seldom: {what} {value}: {count}"));
                 }
             }
         }

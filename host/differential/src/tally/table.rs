@@ -56,20 +56,21 @@ impl Table {
         }
     }
 
-    /// Which counts are lower than this, or not 0, and may not be.
+    /// Says which counts are lower than this, or not 0, and may not be.
     pub fn wrong(&self, least: u64) -> Vec<String> {
         let mut wrong = Vec::new();
         for (place, (&cell, &count)) in self.cells.iter().zip(&self.counts).enumerate() {
-            let fine = match cell {
-                Cell::Must => count >= least,
-                Cell::May => true,
-                Cell::Never => count == 0,
+            let why = match cell {
+                Cell::Must if count < least => "seldom",
+                Cell::Never if count > 0 => "often",
+                _ => continue,
             };
-            if !fine {
-                let row = &self.rows[place / self.columns.len()];
-                let column = &self.columns[place % self.columns.len()];
-                wrong.push(format!("{}, {row}, {column}: {count}", self.title));
-            }
+            let row = &self.rows[place / self.columns.len()];
+            let column = &self.columns[place % self.columns.len()];
+            wrong.push(format!(
+                "too {why}: {}, {row}, {column}: {count}",
+                self.title
+            ));
         }
         wrong
     }

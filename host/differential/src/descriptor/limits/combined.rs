@@ -116,62 +116,59 @@ fn fill_bytes(limits: &mut Vec<Limit>) {
     }
 }
 
-/// Descriptors with one fault each, and its number.
-fn wrong() -> Vec<(&'static str, Vec<u8>, u32)> {
-    let array_in_array = [
-        &[0, 1][..],
-        &[0xFF; 4],
-        &whole(
-            0x40,
-            &[&[0, 1][..], &[0xFF; 4], &raw(4, 0x03, &[])].concat(),
-        ),
-    ];
+/// A descriptor with one fault, and its number.
+type Wrong = (&'static str, Vec<u8>, u32);
+
+fn wrong() -> Vec<Wrong> {
+    [wrong_lengths(), wrong_counts(), wrong_contents()].concat()
+}
+
+fn wrong_lengths() -> Vec<Wrong> {
+    let one_of_two = [0, 2, 0xFF, 0xFF, 0xFF, 0xFF];
     vec![
         ("a high size", raw(0x8000, 0x03, &[]), 3),
         ("an odd size", raw(5, 0x03, &[0, 0]), 4),
         ("a size past the end", raw(6, 0x03, &[]), 4),
         ("an unknown code", whole(0x0F, &[]), 5),
+        ("no length word", whole(0x30, &[0xFF, 0xFF]), 8),
+        ("an item that runs over", whole(0x17, &[0, 1, 2, 0]), 8),
+        ("a pair missing", whole(0x1E, &[0, 1, 0, 0]), 8),
+        ("a dimension missing", whole(0x40, &one_of_two), 8),
+    ]
+}
+
+fn wrong_counts() -> Vec<Wrong> {
+    vec![
         ("no count of items", whole(0x15, &[]), 8),
         ("no count of pairs", whole(0x19, &[]), 8),
         ("no count of dimensions", whole(0x40, &[]), 8),
         ("no count of members", whole(0x50, &[]), 8),
-        ("no length word", whole(0x30, &[0xFF, 0xFF]), 8),
-        ("an item that runs over", whole(0x17, &[0, 1, 2, 0]), 8),
-        ("a pair missing", whole(0x1E, &[0, 1, 0, 0]), 8),
-        (
-            "a dimension missing",
-            whole(0x40, &[0, 2, 0xFF, 0xFF, 0xFF, 0xFF]),
-            8,
-        ),
         ("no items", whole(0x16, &[0, 0]), 9),
         ("no pairs", whole(0x1B, &[0, 0]), 9),
         ("ten pairs", whole(0x1C, &[0, 10]), 9),
         ("no dimensions", whole(0x40, &[0, 0]), 9),
         ("five dimensions", whole(0x40, &[0, 5]), 9),
         ("no members", whole(0x50, &[0, 0]), 9),
+    ]
+}
+
+fn wrong_contents() -> Vec<Wrong> {
+    let word = |last| [0xFF, 0xFF, 0xFF, last];
+    let array_of = |element: &[u8]| {
+        let dimension = [&[0, 1][..], &word(0xFF)].concat();
+        whole(0x40, &[&dimension, element].concat())
+    };
+    let twice = array_of(&array_of(&raw(4, 0x03, &[])));
+    let dimension = whole(0x40, &[&[0, 1][..], &word(0x7F)].concat());
+    let unnamed = whole(0x30, &[&word(0xFF)[..], &[0, 1]].concat());
+    vec![
         ("a wrong fill byte", whole(0x15, &[0, 1, 0, 1]), 10),
         ("base index 9", whole(0x1D, &[0, 1, 0, 9, 0, 0]), 10),
-        (
-            "a wrong length word",
-            whole(0x30, &[0xFF, 0xFF, 0xFF, 0xFE]),
-            10,
-        ),
-        (
-            "a wrong dimension",
-            whole(0x40, &[0, 1, 0xFF, 0xFF, 0xFF, 0x7F]),
-            10,
-        ),
+        ("a wrong length word", whole(0x30, &word(0xFE)), 10),
+        ("a wrong dimension", dimension, 10),
+        ("an array in an array", twice, 10),
         ("no name", whole(0x21, &[2, 0]), 11),
-        (
-            "a string without name",
-            whole(0x30, &[0xFF, 0xFF, 0xFF, 0xFF, 0, 1]),
-            11,
-        ),
-        (
-            "an array in an array",
-            whole(0x40, &array_in_array.concat()),
-            10,
-        ),
+        ("a string without name", unnamed, 11),
     ]
 }
 
