@@ -1,4 +1,5 @@
 PREFIX ?= /usr/local
+MINUTES ?= 10
 ARCHIVE = target/staticlib/libkerbcanopy.a
 COMMAND = host/target/release/kerbcanopy
 HOST = --release --offline --locked --manifest-path host/Cargo.toml --target-dir host/target
@@ -6,7 +7,7 @@ HOST = --release --offline --locked --manifest-path host/Cargo.toml --target-dir
 CRATES := $(shell awk '$$1 == "kerbcanopy:" { for (i = NF; i > 1; i--) print $$i }' crates.txt)
 PROVED := crates.txt $(shell find crates -name '*.rt' -o -name '*.antt')
 
-.PHONY: help run test bench memcheck install clean library command
+.PHONY: help run test bench fuzz memcheck install clean library command
 
 help: ## this list
 	@awk -F ':.*## ' '/^[a-z]+:.*## / { printf "make %-9s %s\n", $$1, $$2 }' Makefile
@@ -19,6 +20,9 @@ test: ## the gate, which proves and tests everything
 
 bench: library ## the library and the second implementation, timed side by side
 	cargo run $(HOST) --package bench
+
+fuzz: library ## the differential test over fresh seeds on every core, for MINUTES (10)
+	cargo run $(HOST) --package differential -- --minutes $(MINUTES)
 
 memcheck: library ## the differential test under valgrind, every buffer exactly as long as what it holds
 	@command -v valgrind > /dev/null || apt-get install -y valgrind

@@ -1,7 +1,7 @@
 //! The questions about data: cases, and the two held against each other over
 //! each.
 
-mod ask;
+pub mod ask;
 pub mod both;
 pub mod case;
 pub mod damage;

@@ -4,7 +4,7 @@
 use crate::random::Random;
 use crate::tree::{Body, Tree};
 
-const PLAIN: [u8; 15] = [1, 2, 3, 4, 5, 6, 7, 8, 9, 0xA, 0xB, 0xC, 0xD, 0xE, 0x21];
+pub const PLAIN: [u8; 15] = [1, 2, 3, 4, 5, 6, 7, 8, 9, 0xA, 0xB, 0xC, 0xD, 0xE, 0x21];
 
 /// What a tree may still use up, and which rules it may break.
 struct Room {
@@ -170,6 +170,9 @@ fn enumeration(random: &mut Random, room: &mut Room) -> Body {
     if !room.take(4) {
         return Body::Plain(random.pick(&PLAIN));
     }
+    if random.once_in(12) {
+        return Body::Enumeration(code, many_items(random, room));
+    }
     let mut items = vec![Vec::new()];
     for _ in 0..random.pick(&[1, 1, 2, 3, 6, 30]) {
         let item = characters(random);
@@ -181,6 +184,18 @@ fn enumeration(random: &mut Random, room: &mut Room) -> Body {
         items.swap_remove(0);
     }
     Body::Enumeration(code, items)
+}
+
+/// As many empty items as there is room for at most, counted from one that has
+/// its bytes already.
+fn many_items(random: &mut Random, room: &mut Room) -> Vec<Vec<u8>> {
+    let count = match random.below(4) {
+        0 => random.between(1, 4000),
+        _ => random.pick(&[127, 128, 253, 254, 255, 256, 257, 300]),
+    };
+    let count = count.min(room.bytes + 1);
+    room.bytes -= count - 1;
+    vec![Vec::new(); count]
 }
 
 fn quantity(random: &mut Random, room: &mut Room) -> Body {
@@ -218,36 +233,5 @@ fn characters(random: &mut Random) -> Vec<u8> {
     match random.once_in(3) {
         true => random.bytes(length),
         false => (0..length).map(|_| b'a' + random.below(26) as u8).collect(),
-    }
-}
-
-/// A copy in which one thing that counts for equality may differ.
-pub fn twin(random: &mut Random, tree: &Tree) -> Tree {
-    let mut twin = tree.clone();
-    alter(random, &mut twin);
-    twin
-}
-
-fn alter(random: &mut Random, tree: &mut Tree) {
-    let deeper = !random.once_in(4);
-    match &mut tree.body {
-        Body::Cluster(members) if deeper => {
-            let member = random.below(members.len());
-            alter(random, &mut members[member]);
-        }
-        Body::Array(_, element) if deeper => alter(random, element),
-        Body::Enumeration(_, items) if deeper => {
-            let item = random.below(items.len());
-            match items[item].last_mut() {
-                Some(last) => *last ^= 1,
-                None => items[item] = vec![0],
-            }
-        }
-        Body::Quantity(_, pairs) if deeper => {
-            let pair = random.below(pairs.len());
-            pairs[pair][1] ^= 0x8000;
-        }
-        Body::Plain(code) if deeper => *code = random.pick(&PLAIN),
-        _ => tree.name = name(random),
     }
 }

@@ -1,75 +1,122 @@
-//! What to run: the gate's seeds and cases, or those named by hand.
+//! What to run: the gate's seeds and cases, those named by hand, or fresh ones for
+//! a time.
 
 use std::hash::{BuildHasher, RandomState};
-use std::ops::Range;
+use std::time::Duration;
 
-pub const USAGE: &str = "usage: differential [--exact] [--cases N] [--seed S] [--case I]
+use crate::listed::{Listed, Met};
+
+pub const USAGE: &str =
+    "usage: differential [--exact] [--cases N] [--seed S] [--case I] [--minutes M]
   no arguments   the gate run: fixed seeds, then a fresh one, each of which must
-                 meet every number
+                 meet every number; together they must meet everything of
+                 document 01 often enough
   --cases N      N cases of each seed; the limits come first
   --seed S       this seed alone
   --case I       case I alone, to look at a difference again
+  --minutes M    fresh seeds for M minutes, up to the first difference
   --exact        every buffer in an allocation of its own length, for a memory
                  checker, and fewer seeds and cases";
 
 /// The seeds that every gate run takes.
 const FIXED_SEEDS: [u64; 4] = [1, 2, 3, 4];
 /// Cases of each seed in the gate run.
-const GATE_CASES: u64 = 300_000;
+pub const GATE_CASES: u64 = 300_000;
 /// The same when a memory checker looks on, which takes one fixed seed.
-const EXACT_CASES: u64 = 9_400;
+const EXACT_CASES: u64 = 10_200;
+/// The longest run, in minutes.
+const MOST_MINUTES: f64 = 100_000.0;
 
 pub struct Options {
-    pub seeds: Vec<u64>,
-    pub cases: Range<u64>,
+    pub run: Run,
     pub exact: bool,
-    /// Whether every seed must meet every number.
-    pub gate: bool,
+}
+
+pub enum Run {
+    Listed(Listed),
+    Time(Duration),
+}
+
+/// The arguments as they stand.
+#[derive(Default)]
+struct Given {
+    seed: Option<u64>,
+    cases: Option<u64>,
+    case: Option<u64>,
+    minutes: Option<f64>,
+    exact: bool,
 }
 
 impl Options {
     /// Reads the arguments, or says which one it can't use.
-    pub fn read(mut arguments: impl Iterator<Item = String>) -> Result<Options, String> {
-        let (mut seed, mut cases, mut case, mut exact) = (None, None, None, false);
-        while let Some(argument) = arguments.next() {
-            match argument.as_str() {
-                "--exact" => exact = true,
-                "--seed" => seed = Some(number(&argument, arguments.next())?),
-                "--cases" => cases = Some(number(&argument, arguments.next())?),
-                "--case" => case = Some(number(&argument, arguments.next())?),
-                _ => return Err(format!("unknown argument {argument}")),
-            }
-        }
-        let (usual, fixed) = match exact {
-            true => (EXACT_CASES, 1),
-            false => (GATE_CASES, FIXED_SEEDS.len()),
-        };
-        let gate = seed.is_none() && cases.is_none() && case.is_none();
-        let seeds = match seed {
-            Some(seed) => vec![seed],
-            None => [&FIXED_SEEDS[..fixed], &[fresh_seed()]].concat(),
-        };
-        let cases = match case {
-            Some(case) => case..case + 1,
-            None => 0..cases.unwrap_or(usual),
+    pub fn read(arguments: impl Iterator<Item = String>) -> Result<Options, String> {
+        let given = Given::read(arguments)?;
+        let by_hand = given.seed.is_some() || given.cases.is_some() || given.case.is_some();
+        let run = match given.minutes {
+            Some(_) if by_hand => return Err("--minutes takes seeds and cases of its own".into()),
+            Some(minutes) => Run::Time(Duration::from_secs_f64(60.0 * minutes)),
+            None => Run::Listed(given.listed(by_hand)),
         };
         Ok(Options {
-            seeds,
-            cases,
-            exact,
-            gate,
+            run,
+            exact: given.exact,
         })
     }
 }
 
-fn number(argument: &str, value: Option<String>) -> Result<u64, String> {
-    let value = value.ok_or(format!("{argument} needs a number"))?;
+impl Given {
+    fn read(mut arguments: impl Iterator<Item = String>) -> Result<Given, String> {
+        let mut given = Given::default();
+        while let Some(argument) = arguments.next() {
+            let mut value = || arguments.next().ok_or(format!("{argument} needs a number"));
+            match argument.as_str() {
+                "--exact" => given.exact = true,
+                "--seed" => given.seed = Some(number(&argument, &value()?)?),
+                "--cases" => given.cases = Some(number(&argument, &value()?)?),
+                "--case" => given.case = Some(number(&argument, &value()?)?),
+                "--minutes" => given.minutes = Some(minutes(&value()?)?),
+                _ => return Err(format!("unknown argument {argument}")),
+            }
+        }
+        Ok(given)
+    }
+
+    fn listed(&self, by_hand: bool) -> Listed {
+        let (usual, fixed) = match self.exact {
+            true => (EXACT_CASES, 1),
+            false => (GATE_CASES, FIXED_SEEDS.len()),
+        };
+        Listed {
+            seeds: match self.seed {
+                Some(seed) => vec![seed],
+                None => [&FIXED_SEEDS[..fixed], &[fresh_seed()]].concat(),
+            },
+            cases: match self.case {
+                Some(case) => case..case.saturating_add(1),
+                None => 0..self.cases.unwrap_or(usual),
+            },
+            met: match (by_hand, self.exact) {
+                (true, _) => Met::Anything,
+                (false, true) => Met::Numbers,
+                (false, false) => Met::Everything,
+            },
+        }
+    }
+}
+
+fn number(argument: &str, value: &str) -> Result<u64, String> {
     value
         .parse()
         .map_err(|_| format!("{argument} needs a number, not {value}"))
 }
 
+fn minutes(value: &str) -> Result<f64, String> {
+    let minutes = value.parse().ok();
+    let minutes = minutes.filter(|minutes| (0.0..=MOST_MINUTES).contains(minutes));
+    minutes.ok_or(format!("--minutes needs a number of minutes, not {value}"))
+}
+
 /// A seed that differs from run to run.
-fn fresh_seed() -> u64 {
+pub fn fresh_seed() -> u64 {
     RandomState::new().hash_one(0u64)
 }

@@ -7,3 +7,4 @@ pub mod limits;
 mod rig;
 mod stated;
 mod wanted;
+mod wide;

@@ -1,112 +1,181 @@
-//! Counts what the cases met, and says whether every number was among it.
+//! Counts what the cases met, and says whether anything of document 01 was met
+//! too seldom.
+
+mod data;
+mod descriptor;
+mod lines;
+mod met;
+mod record;
+mod table;
 
 use reference::{Answer, Compared};
 
-use crate::kind::{KINDS, Kind};
+use crate::entry::Entry;
+use crate::kind::{Area, Kind};
+use crate::twin::{CHANGES, Change};
+use lines::Lines;
+use met::{ANSWERS, CODES, Coded, Deep, NUMBERS};
+use table::{Cell, Table};
 
-/// Every number that the questions can answer.
-const NUMBERS: [u32; 27] = [
-    0, 1, 2, 3, 4, 5, 6, 7, 8, 9, 10, 11, 12, 20, 21, 22, 23, 24, 25, 30, 31, 40, 41, 42, 43, 44,
-    50,
-];
-
-#[derive(Default)]
 pub struct Tally {
     pub cases: u64,
-    kinds: [u64; KINDS.len()],
-    met: [u64; NUMBERS.len()],
-    equal: u64,
-    unequal: u64,
-    not_compared: u64,
-    forms: u64,
-    parts: u64,
-    values: u64,
+    answers: Table,
+    kinds: [Table; 3],
+    depths: Table,
+    codes: Table,
+    bodies: Table,
+    rooms: Table,
+    comparisons: Table,
+    records: Table,
+    lines: Lines,
 }
 
 impl Tally {
+    pub fn new() -> Tally {
+        let changes = CHANGES.map(|(_, words)| words.to_string());
+        let columns = ["equal", "unequal"].map(String::from);
+        let comparisons = Table::new(
+            "compared, differing in",
+            changes.to_vec(),
+            columns.to_vec(),
+            |row, column| match (column == 0, row <= Change::Reserved as usize) {
+                (true, true) | (false, false) => Cell::Must,
+                _ if row == Change::Everything as usize => Cell::May,
+                _ => Cell::Never,
+            },
+        );
+        Tally {
+            cases: 0,
+            answers: met::answers(),
+            kinds: [Area::Descriptor, Area::Data, Area::Record].map(met::kinds),
+            depths: met::depths(),
+            codes: met::codes(),
+            bodies: met::bodies(),
+            rooms: met::rooms(),
+            comparisons,
+            records: record::reasons(),
+            lines: Lines::new(),
+        }
+    }
+
     /// Adds what another tally counted.
     pub fn add(&mut self, other: &Tally) {
-        for (count, more) in self.kinds.iter_mut().zip(other.kinds) {
-            *count += more;
-        }
-        for (count, more) in self.met.iter_mut().zip(other.met) {
-            *count += more;
-        }
         self.cases += other.cases;
-        self.equal += other.equal;
-        self.unequal += other.unequal;
-        self.not_compared += other.not_compared;
-        self.forms += other.forms;
-        self.parts += other.parts;
-        self.values += other.values;
+        for (table, more) in self.tables_mut().into_iter().zip(other.tables()) {
+            table.add(more);
+        }
+        self.lines.add(&other.lines);
     }
 
-    /// Counts a case by its kind and by the check's number.
-    pub fn checked(&mut self, kind: Kind, answer: Answer) {
-        self.kinds[kind as usize] += 1;
-        self.meet(answer.number);
+    fn tables(&self) -> [&Table; 10] {
+        let [descriptors, data, records] = &self.kinds;
+        [
+            &self.answers,
+            descriptors,
+            data,
+            records,
+            &self.depths,
+            &self.codes,
+            &self.bodies,
+            &self.rooms,
+            &self.comparisons,
+            &self.records,
+        ]
     }
 
-    pub fn compared(&mut self, compared: &Compared) {
-        match (compared.answer.number, compared.equal) {
-            (0, true) => self.equal += 1,
-            (0, false) => self.unequal += 1,
-            _ => self.not_compared += 1,
+    fn tables_mut(&mut self) -> [&mut Table; 10] {
+        let [descriptors, data, records] = &mut self.kinds;
+        [
+            &mut self.answers,
+            descriptors,
+            data,
+            records,
+            &mut self.depths,
+            &mut self.codes,
+            &mut self.bodies,
+            &mut self.rooms,
+            &mut self.comparisons,
+            &mut self.records,
+        ]
+    }
+
+    /// Counts an entry's answer.
+    pub fn answered(&mut self, entry: Entry, answer: Answer) {
+        let given = (answer.number, answer.input);
+        let known = ANSWERS.iter().position(|known| *known == given);
+        self.answers
+            .count(known.unwrap_or(ANSWERS.len()), entry as usize);
+    }
+
+    /// Counts the answer of an entry that writes, and the room by what was needed.
+    pub fn wrote(&mut self, entry: Entry, answer: Answer, room: usize) {
+        self.answered(entry, answer);
+        if !matches!(answer.number, 0 | 50) {
+            return;
+        }
+        let needed = answer.place as usize;
+        let row = match room {
+            0 => 3,
+            _ if room == needed => 0,
+            _ if room + 1 == needed => 1,
+            _ if room == needed + 1 => 2,
+            _ => 4,
+        };
+        self.rooms.count(row, entry as usize);
+    }
+
+    /// Counts a case by its kind and the answer to the first question about it.
+    fn case(&mut self, kind: Kind, answer: Answer) {
+        if let Some(row) = NUMBERS.iter().position(|number| *number == answer.number) {
+            self.kinds[kind.known().area as usize].count(row, kind.column());
         }
     }
 
-    /// Counts an output written, or its refusal where that is the request's; the
-    /// others are the check's. Likewise for the next two.
-    pub fn form(&mut self, answer: Answer) {
-        self.forms += u64::from(answer.number == 0);
-        self.request(answer);
-    }
-
-    pub fn part(&mut self, answer: Answer) {
-        self.parts += u64::from(answer.number == 0);
-        self.request(answer);
-    }
-
-    pub fn value(&mut self, answer: Answer) {
-        self.values += u64::from(answer.number == 0);
-        self.request(answer);
-    }
-
-    fn request(&mut self, answer: Answer) {
-        if answer.input == 4 {
-            self.meet(answer.number);
+    /// Counts a comparison, and what differs where the generator knows it.
+    pub fn compared(&mut self, compared: &Compared, change: Option<Change>) {
+        self.answered(Entry::Compare, compared.answer);
+        if let (0, Some(change)) = (compared.answer.number, change) {
+            let column = usize::from(!compared.equal);
+            self.comparisons.count(change as usize, column);
         }
     }
 
-    fn meet(&mut self, number: u32) {
-        if let Some(index) = NUMBERS.iter().position(|&known| known == number) {
-            self.met[index] += 1;
+    fn deep(&mut self, deep: Deep, depth: usize) {
+        if (1..=9).contains(&depth) {
+            self.depths.count(deep.row(), depth - 1);
+        }
+    }
+
+    fn coded(&mut self, code: u8, coded: Coded) {
+        if let Some(row) = CODES.iter().position(|known| *known == code) {
+            self.codes.count(row, coded as usize);
         }
     }
 
     /// The numbers that no case met.
     pub fn never_met(&self) -> Vec<u32> {
-        let pairs = NUMBERS.iter().zip(self.met);
-        pairs
-            .filter(|(_, met)| *met == 0)
-            .map(|(number, _)| *number)
-            .collect()
+        let met = |number: &u32| {
+            let mut rows = ANSWERS.iter().enumerate();
+            rows.any(|(row, answer)| answer.0 == *number && self.answers.row(row) > 0)
+        };
+        NUMBERS.into_iter().filter(|number| !met(number)).collect()
+    }
+
+    /// Says what was met less often than this, and what no answer can be.
+    pub fn wrong(&self, least: u64) -> Vec<String> {
+        let tables = self.tables().into_iter();
+        let mut wrong: Vec<String> = tables.flat_map(|table| table.wrong(least)).collect();
+        wrong.extend(self.lines.wrong(least));
+        wrong
     }
 
     pub fn print(&self) {
-        println!("{:>9}  cases", self.cases);
-        for (count, (_, words)) in self.kinds.iter().zip(KINDS) {
-            println!("{count:>9}  {words}");
+        println!("{} cases", self.cases);
+        for table in self.tables() {
+            println!();
+            table.print();
         }
-        println!("{:>9}  accepted", self.met[0]);
-        for (number, met) in NUMBERS.iter().zip(self.met).skip(1) {
-            println!("{met:>9}  refused with {number}");
-        }
-        println!("{:>9}  comparisons equal", self.equal);
-        println!("{:>9}  comparisons unequal", self.unequal);
-        println!("{:>9}  comparisons refused", self.not_compared);
-        println!("{:>9}  outputs written", self.forms);
-        println!("{:>9}  parts found", self.parts);
-        println!("{:>9}  values read", self.values);
+        println!();
+        self.lines.print();
     }
 }

@@ -1,6 +1,8 @@
 //! Descriptors as trees, and their encoder, which also says what the table's
 //! rows must be. It shares no code with either implementation.
 
+use reference::{MOST_BYTES, MOST_DEPTH, MOST_ROWS};
+
 /// A row as the generator states it: code, start, size, depth, count, name
 /// place, name length.
 pub type StatedRow = [u16; 7];
@@ -36,6 +38,24 @@ impl Tree {
         Tree { body, name: None }
     }
 
+    /// Whether every count and index keeps its limits and no array is an array's
+    /// element.
+    pub fn is_lawful(&self) -> bool {
+        match &self.body {
+            Body::Plain(_) | Body::Text => true,
+            Body::Enumeration(_, items) => !items.is_empty(),
+            Body::Quantity(_, pairs) => {
+                (1..=9).contains(&pairs.len()) && pairs.iter().all(|[base, _]| *base <= 8)
+            }
+            Body::Array(dimensions, element) => {
+                (1..=4).contains(dimensions)
+                    && !matches!(element.body, Body::Array(..))
+                    && element.is_lawful()
+            }
+            Body::Cluster(members) => !members.is_empty() && members.iter().all(Tree::is_lawful),
+        }
+    }
+
     /// Encodes the tree, asking `reserved` for each reserved byte.
     pub fn encode(&self, reserved: &mut dyn FnMut() -> u8) -> Encoded {
         let mut encoded = Encoded::default();
@@ -69,6 +89,16 @@ impl Tree {
             name_length,
         ];
     }
+}
+
+/// Whether a tree that breaks no other rule keeps the limits of bytes, rows and
+/// depth.
+pub fn fits(tree: &Tree) -> bool {
+    let encoded = tree.normal_form();
+    let deepest = encoded.rows.iter().map(|row| row[3]).max();
+    encoded.bytes.len() <= MOST_BYTES
+        && encoded.rows.len() <= MOST_ROWS
+        && usize::from(deepest.unwrap_or(0)) <= MOST_DEPTH
 }
 
 impl Body {

@@ -8,6 +8,7 @@ use crate::random::Random;
 #[derive(Clone)]
 pub struct Ask {
     pub path: Vec<u32>,
+    pub code: Option<u8>,
     pub stated: Option<Found>,
 }
 
@@ -25,13 +26,18 @@ pub enum Found {
 
 impl Ask {
     pub fn unknown(path: Vec<u32>) -> Ask {
-        Ask { path, stated: None }
+        Ask {
+            path,
+            code: None,
+            stated: None,
+        }
     }
 
     /// The path of a part.
     pub fn part(part: &Part) -> Ask {
         Ask {
             path: part.path.clone(),
+            code: Some(part.code),
             stated: Some(Found::Part {
                 start: part.start,
                 length: part.length,
@@ -44,6 +50,7 @@ impl Ask {
     pub fn past(part: &Part, step: u32, others: &[u32]) -> Ask {
         Ask {
             path: [&part.path[..], &[step], others].concat(),
+            code: None,
             stated: Some(Found::Nowhere(part.path.len() as u32)),
         }
     }

@@ -22,6 +22,7 @@ pub struct Piece {
     pub start: usize,
     pub length: usize,
     pub of: Of,
+    pub depth: usize,
 }
 
 #[derive(Clone, Copy)]
@@ -35,8 +36,18 @@ pub enum Of {
     Sizes,
 }
 
+/// How a part stands in the one around it.
+#[derive(Clone, Copy)]
+pub enum Standing {
+    Top,
+    Member,
+    Element,
+}
+
 /// A part, how many steps lead on from it, and its value if it has one.
 pub struct Part {
+    pub code: u8,
+    pub standing: Standing,
     pub path: Vec<u32>,
     pub start: usize,
     pub length: usize,
@@ -58,9 +69,15 @@ pub fn least(tree: &Tree) -> usize {
 
 /// Data of this many bytes at most, if the tree allows so few.
 pub fn fill(random: &mut Random, tree: &Tree, most: usize) -> Flattened {
+    fill_up(random, tree, most, None)
+}
+
+/// The same, but the string or array at this path takes all that it can.
+pub fn fill_up(random: &mut Random, tree: &Tree, most: usize, greedy: Option<&[u32]>) -> Flattened {
     let mut filler = Filler {
         random,
         spare: most.saturating_sub(least(tree)),
+        greedy,
         path: Vec::new(),
         noted: true,
         filled: Flattened {
@@ -69,7 +86,7 @@ pub fn fill(random: &mut Random, tree: &Tree, most: usize) -> Flattened {
             parts: Vec::new(),
         },
     };
-    filler.tree(tree);
+    filler.tree(tree, Standing::Top);
     filler.filled
 }
 
@@ -77,6 +94,8 @@ struct Filler<'a> {
     random: &'a mut Random,
     /// The bytes that may be taken beyond what the tree needs at least.
     spare: usize,
+    /// The path of what takes them all.
+    greedy: Option<&'a [u32]>,
     path: Vec<u32>,
     /// Whether the part that is being filled is noted.
     noted: bool,
@@ -84,7 +103,7 @@ struct Filler<'a> {
 }
 
 impl Filler<'_> {
-    fn tree(&mut self, tree: &Tree) {
+    fn tree(&mut self, tree: &Tree, standing: Standing) {
         let start = self.filled.data.len();
         let (steps, value) = match &tree.body {
             Body::Plain(0x21) => (0, self.flag()),
@@ -99,6 +118,8 @@ impl Filler<'_> {
         let room = self.filled.parts.len() < MOST_PARTS || self.path.is_empty();
         if self.noted && room {
             self.filled.parts.push(Part {
+                code: tree.body.code(),
+                standing,
                 path: self.path.clone(),
                 start,
                 length: self.filled.data.len() - start,
@@ -111,7 +132,13 @@ impl Filler<'_> {
     /// Notes the piece that ends where the data does now.
     fn piece(&mut self, length: usize, of: Of) {
         let start = self.filled.data.len() - length;
-        self.filled.pieces.push(Piece { start, length, of });
+        let depth = self.path.len() + 1;
+        self.filled.pieces.push(Piece {
+            start,
+            length,
+            of,
+            depth,
+        });
     }
 
     fn flag(&mut self) -> Value {
@@ -149,8 +176,10 @@ impl Filler<'_> {
 
     fn text(&mut self) -> Value {
         let length = match self.random.below(6) {
+            _ if self.is_greedy() => self.spare,
             0 => 0,
             1 => self.random.below(300),
+            2 => self.random.pick(&[30, 31, 32, 33, 255, 256]),
             _ => self.random.below(9),
         };
         let length = length.min(self.spare);
@@ -162,11 +191,15 @@ impl Filler<'_> {
         None
     }
 
+    fn is_greedy(&self) -> bool {
+        self.greedy == Some(&self.path[..])
+    }
+
     /// Fills each member. Returns how many there are.
     fn members(&mut self, members: &[Tree]) -> u32 {
         for (step, member) in (0..).zip(members) {
             self.path.push(step);
-            self.tree(member);
+            self.tree(member, Standing::Member);
             self.path.pop();
         }
         members.len() as u32
@@ -189,7 +222,7 @@ impl Filler<'_> {
         for step in 0..count {
             self.noted = noted && (step < 2 || step == count - 1 || step == chosen);
             self.path.push(step);
-            self.tree(element);
+            self.tree(element, Standing::Element);
             self.path.pop();
         }
         self.noted = noted;
@@ -199,11 +232,13 @@ impl Filler<'_> {
     /// Sizes of no elements, or of as many as there is room for at most.
     fn sizes(&mut self, dimensions: usize, element: &Tree) -> Vec<u32> {
         let most = self.spare / least(element);
-        if most == 0 || self.random.once_in(6) {
+        if most == 0 || (self.random.once_in(6) && !self.is_greedy()) {
             return self.sizes_of_none(dimensions);
         }
         let target = match self.random.below(8) {
+            _ if self.is_greedy() => most,
             0 => most,
+            2 => self.random.pick(&[254, 255, 256]).min(most),
             1 => 1,
             _ => self.random.between(1, 9).min(most),
         };

@@ -6,6 +6,7 @@ use reference::Answer;
 use super::case::Case;
 use crate::answers::demand_same;
 use crate::difference::{Held, demand_guarded};
+use crate::entry::Entry;
 use crate::lent::{Around, Lent};
 use crate::output::{Room, in_room, rooms};
 use crate::proved;
@@ -14,18 +15,21 @@ use crate::tally::Tally;
 
 /// One of the two questions, as each implementation answers it.
 struct Form {
+    entry: Entry,
     name: &'static str,
     proved: proved::Writing,
     other: fn(&[u8], &[u8], &mut [u8]) -> Answer,
 }
 
 const TO_LITTLE_ENDIAN: Form = Form {
+    entry: Entry::ToLittleEndian,
     name: "to_little_endian",
     proved: proved::to_little_endian,
     other: reference::to_little_endian,
 };
 
 const FROM_LITTLE_ENDIAN: Form = Form {
+    entry: Entry::FromLittleEndian,
     name: "from_little_endian",
     proved: proved::from_little_endian,
     other: reference::from_little_endian,
@@ -88,7 +92,7 @@ impl Form {
     ) -> Held<()> {
         for &room in rooms {
             let answer = self.hold(asked, room, random.byte())?;
-            tally.form(answer);
+            tally.wrote(self.entry, answer, room);
         }
         let untouched = asked.descriptor.untouched() && asked.data.untouched();
         demand_guarded(untouched, &format!("{}'s inputs", self.name))

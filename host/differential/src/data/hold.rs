@@ -77,7 +77,7 @@ impl Hold<'_> {
         if descriptor.number != 0 {
             demand_same(answer, descriptor, "check_data, against check_descriptor")?;
         }
-        self.tally.checked(case.kind, answer);
+        self.tally.data(case, answer);
         Ok(answer)
     }
 
@@ -94,7 +94,7 @@ impl Hold<'_> {
             Some(Found::Nowhere(step)) => (request(30, step), 0, 0),
             None => part,
         };
-        self.tally.part(part.0);
+        self.tally.viewed(ask, part.0);
         demand_path("view", &path, proved, part, stated)
     }
 
@@ -114,7 +114,7 @@ impl Hold<'_> {
             Some(Found::Nowhere(step)) => (request(30, step), 0, 0),
             None => value,
         };
-        self.tally.value(value.0);
+        self.tally.valued(ask, value.0);
         demand_path("read_value", &path, proved, value, stated)
     }
 }

@@ -93,6 +93,7 @@ impl Limits {
     fn part(&mut self, path: &[u32], start: usize, length: usize, value: Value) {
         self.ask(Ask {
             path: path.to_vec(),
+            code: None,
             stated: Some(Found::Part {
                 start,
                 length,
@@ -105,6 +106,7 @@ impl Limits {
     fn nowhere(&mut self, path: &[u32], step: u32) {
         self.ask(Ask {
             path: path.to_vec(),
+            code: None,
             stated: Some(Found::Nowhere(step)),
         });
     }

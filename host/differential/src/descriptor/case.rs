@@ -8,7 +8,9 @@ use super::limits::Limit;
 use crate::grow;
 use crate::kind::Kind;
 use crate::random::Random;
-use crate::tree::{Encoded, StatedRow, Tree};
+use crate::tight;
+use crate::tree::{Encoded, StatedRow, Tree, fits};
+use crate::twin::{Change, twin};
 
 pub struct Case {
     pub kind: Kind,
@@ -28,10 +30,12 @@ pub struct Stated {
     pub normal_form: Option<Vec<u8>>,
 }
 
-/// A descriptor to compare with, and whether the two are equal where known.
+/// A descriptor to compare with, whether the two are equal, and what differs,
+/// where these are known.
 pub struct Partner {
     pub bytes: Vec<u8>,
     pub equal: Option<bool>,
+    pub change: Option<Change>,
 }
 
 /// A case without partners or a statement.
@@ -57,11 +61,26 @@ impl Case {
 
     /// A case by chance.
     pub fn any(random: &mut Random) -> Case {
-        let case = match random.below(20) {
-            0..7 => tree_case(random),
-            7..15 => damaged_case(random),
-            15..17 => wild_case(random),
-            17..19 => bare(Kind::Headed, headed(random)),
+        let case = match random.below(40) {
+            0..13 => {
+                let tree = grow::tame(random);
+                tree_case(random, Kind::Tree, &tree)
+            }
+            13 => tight_case(random),
+            14..26 => {
+                let tree = grow::tame(random);
+                damaged_case(random, &tree)
+            }
+            26..29 => {
+                let tree = tight::deep(random);
+                damaged_case(random, &tree)
+            }
+            29 => {
+                let tree = tight::tree(random);
+                damaged_case(random, &tree)
+            }
+            30..34 => wild_case(random),
+            34..38 => bare(Kind::Headed, headed(random)),
             _ => bare(Kind::Random, random_bytes(random)),
         };
         case.with_strangers(random)
@@ -70,7 +89,7 @@ impl Case {
     /// Adds partners that have nothing to do with the case, now and then one of a
     /// length at the limit.
     fn with_strangers(mut self, random: &mut Random) -> Case {
-        if self.kind != Kind::Tree {
+        if !matches!(self.kind, Kind::Tree | Kind::Tight) {
             let other = grow::tame(random);
             self.partners.push(unknown(encode(random, &other).bytes));
         }
@@ -86,7 +105,11 @@ impl Case {
 }
 
 fn unknown(bytes: Vec<u8>) -> Partner {
-    Partner { bytes, equal: None }
+    Partner {
+        bytes,
+        equal: None,
+        change: None,
+    }
 }
 
 /// A tree's bytes with reserved bytes of zero, of one value or of many.
@@ -101,10 +124,10 @@ pub fn encode(random: &mut Random, tree: &Tree) -> Encoded {
     }
 }
 
-fn tree_case(random: &mut Random) -> Case {
-    let tree = grow::tame(random);
-    let encoded = encode(random, &tree);
-    let mut case = bare(Kind::Tree, encoded.bytes.clone());
+/// A tree that must be accepted, its twin, a stranger and a damaged copy.
+fn tree_case(random: &mut Random, kind: Kind, tree: &Tree) -> Case {
+    let encoded = encode(random, tree);
+    let mut case = bare(kind, encoded.bytes.clone());
     case.stated = Stated {
         answer: Some(Answer {
             number: 0,
@@ -114,10 +137,16 @@ fn tree_case(random: &mut Random) -> Case {
         rows: Some(encoded.rows.clone()),
         normal_form: Some(tree.normal_form().bytes),
     };
-    for other in [grow::twin(random, &tree), grow::tame(random)] {
+    let stranger = grow::tame(random);
+    let change = match stranger == *tree {
+        true => Change::Nothing,
+        false => Change::Everything,
+    };
+    for (other, change) in [twin(random, tree), twin(random, tree), (stranger, change)] {
         case.partners.push(Partner {
             bytes: encode(random, &other).bytes,
-            equal: Some(other == tree),
+            equal: Some(other == *tree && fits(&other)),
+            change: Some(change),
         });
     }
     let damaged = damage(random, &encoded).bytes;
@@ -125,9 +154,22 @@ fn tree_case(random: &mut Random) -> Case {
     case
 }
 
-fn damaged_case(random: &mut Random) -> Case {
-    let tree = grow::tame(random);
+/// A tree at the limits or one past some of them.
+fn tight_case(random: &mut Random) -> Case {
+    let tree = tight::tree(random);
+    if tree.is_lawful() && fits(&tree) {
+        return tree_case(random, Kind::Tight, &tree);
+    }
     let encoded = encode(random, &tree);
+    let mut case = bare(Kind::Tight, encoded.bytes.clone());
+    for _ in 0..2 {
+        case.partners.push(unknown(damage(random, &encoded).bytes));
+    }
+    case
+}
+
+fn damaged_case(random: &mut Random, tree: &Tree) -> Case {
+    let encoded = encode(random, tree);
     let damaged = damage(random, &encoded);
     let mut case = bare(Kind::Damaged, damaged.bytes);
     case.beyond = damaged.beyond;

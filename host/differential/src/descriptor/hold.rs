@@ -5,10 +5,12 @@ use reference::{Answer, MOST_ROWS};
 
 use super::case::{Case, Partner};
 use crate::difference::{Held, demand, demand_guarded, outputs, plain};
+use crate::entry::Entry;
 use crate::lent::{Around, Lent};
 use crate::proved;
 use crate::random::Random;
 use crate::tally::Tally;
+use crate::twin::Change;
 
 /// One case being held, and what stands around its buffers.
 struct Hold<'a> {
@@ -55,7 +57,8 @@ impl Hold<'_> {
             demand_guarded(lent.untouched(), "check_descriptor")?;
         }
         self.check_statement(&checked)?;
-        self.tally.checked(self.case.kind, checked.answer);
+        self.tally
+            .descriptor(self.case.kind, &self.case.bytes, &checked);
         Ok(checked)
     }
 
@@ -119,7 +122,7 @@ impl Hold<'_> {
             let texts = || outputs(&proved.bytes()[..written], stated);
             demand(proved.bytes()[..written] == **stated, &question, texts)?;
         }
-        self.tally.form(answer);
+        self.tally.wrote(Entry::NormalForm, answer, room);
         Ok(())
     }
 
@@ -140,7 +143,7 @@ impl Hold<'_> {
             let texts = || [format!("{proved:?}"), format!("equal: {stated}")];
             let question = "compare against the generator";
             demand(compared.equal == stated, question, texts)?;
-            self.tally.compared(&compared);
+            self.tally.compared(&compared, partner.change);
         }
         demand_guarded(case.untouched() && other.untouched(), "compare")
     }
@@ -162,9 +165,15 @@ fn relatives(case: &Case, checked: &reference::Checked, random: &mut Random) -> 
         }
     }
     let normal = without_reserved(&case.bytes, checked);
-    [case.bytes.clone(), normal, other].map(|bytes| Partner {
+    let copies = [
+        (case.bytes.clone(), Change::Nothing),
+        (normal, Change::Reserved),
+        (other, Change::Reserved),
+    ];
+    copies.map(|(bytes, change)| Partner {
         bytes,
         equal: Some(accepted),
+        change: Some(change),
     })
 }
 

@@ -1,6 +1,8 @@
 //! Every limit of document 01 with its neighbour on each side, and what comes
 //! first where two refusals would do. Each case states its answer.
 
+mod combined;
+
 use reference::Answer;
 
 use crate::tree::{Body, Tree};
@@ -25,6 +27,7 @@ pub fn all() -> Vec<Limit> {
     members(&mut limits);
     strings(&mut limits);
     names(&mut limits);
+    combined::add(&mut limits);
     limits
 }
 

@@ -2,16 +2,16 @@
 //! answers, and what the generator knows of them.
 
 use super::limits::Limit;
-use super::rig::{self, Rig, fits};
+use super::rig::{self, Rig};
 use super::stated::{Stated, stated};
-use super::wanted;
+use super::{wanted, wide};
 use crate::data::damage::damage;
 use crate::descriptor::case::encode;
 use crate::descriptor::damage::damage as damage_descriptor;
 use crate::grow;
 use crate::kind::Kind;
 use crate::random::Random;
-use crate::tree::{Body, Tree};
+use crate::tree::{Body, Tree, fits};
 
 pub struct Case {
     pub kind: Kind,
@@ -33,7 +33,7 @@ pub struct Record {
 }
 
 impl Record {
-    fn new(random: &mut Random, writer: &Tree, data: Vec<u8>) -> Record {
+    pub fn new(random: &mut Random, writer: &Tree, data: Vec<u8>) -> Record {
         Record {
             writer: encode(random, writer).bytes,
             data,
@@ -43,7 +43,7 @@ impl Record {
 }
 
 /// A case of one record of which nothing is known.
-fn bare(kind: Kind, record: Record, reader: Vec<u8>) -> Case {
+pub fn bare(kind: Kind, record: Record, reader: Vec<u8>) -> Case {
     Case {
         kind,
         what: kind.words().into(),
@@ -72,6 +72,12 @@ impl Case {
 
     /// A case by chance.
     pub fn any(random: &mut Random) -> Case {
+        if random.once_in(40) {
+            return match random.once_in(10) {
+                true => wide::long(random),
+                false => wide::wide(random),
+            };
+        }
         let rig = Rig::any(random);
         match random.below(20) {
             0..8 => asked(random, &rig),

@@ -6,6 +6,7 @@ use reference::Answer;
 use super::case::{Case, Record};
 use crate::answers::{accepted, demand_same};
 use crate::difference::{Held, demand, demand_guarded, outputs};
+use crate::entry::Entry;
 use crate::lent::{Around, Lent};
 use crate::output::{Output, Room, in_room, rooms};
 use crate::proved;
@@ -68,9 +69,9 @@ fn every_room(
             demand_alike(&second.hold(room)?, &output)?;
         }
         if index == 0 {
-            tally.checked(case.kind, output.answer);
+            tally.record(case, output.answer);
         }
-        tally.form(output.answer);
+        tally.wrote(Entry::ReadRecord, output.answer, length);
     }
     let mut asked = [Some(first), second].into_iter().flatten();
     demand_guarded(asked.all(Asked::untouched), "read_record's inputs")

@@ -3,13 +3,13 @@
 
 use std::ops::Range;
 
-use reference::{MOST_BYTES, MOST_DATA, MOST_ROWS};
+use reference::MOST_DATA;
 
 use crate::data::both::Both;
 use crate::data::fill::{Flattened, Piece, fill, least};
 use crate::grow;
 use crate::random::Random;
-use crate::tree::{Body, Tree};
+use crate::tree::{Body, Tree, fits};
 
 /// A member, its data and the pieces of that.
 #[derive(Clone)]
@@ -63,15 +63,27 @@ pub fn shuffle<T>(random: &mut Random, items: &mut [T]) {
 }
 
 impl Member {
-    /// With data of at most so many bytes more than the tree needs.
-    fn filled(random: &mut Random, tree: Tree, spare: usize) -> Member {
-        let most = least(&tree) + random.between(0, spare);
-        let Flattened { data, pieces, .. } = fill(random, &tree, most);
+    pub fn of(tree: Tree, filled: Flattened) -> Member {
+        let Flattened { data, pieces, .. } = filled;
         Member { tree, data, pieces }
+    }
+
+    /// With data of at most so many bytes more than the tree needs.
+    pub fn filled(random: &mut Random, tree: Tree, spare: usize) -> Member {
+        let most = least(&tree) + random.between(0, spare);
+        let filled = fill(random, &tree, most);
+        Member::of(tree, filled)
     }
 }
 
 impl Rig {
+    pub fn of(members: Vec<Member>) -> Rig {
+        Rig {
+            members,
+            name: None,
+        }
+    }
+
     /// A rig by chance. Most names differ; a few are none, empty or another's.
     pub fn any(random: &mut Random) -> Rig {
         // Seldom very long, since that takes its time.
@@ -122,6 +134,7 @@ impl Rig {
             let start = record.data.len();
             let moved = |piece: &Piece| Piece {
                 start: start + piece.start,
+                depth: piece.depth + 1,
                 ..*piece
             };
             record.pieces.extend(member.pieces.iter().map(moved));
@@ -177,12 +190,6 @@ impl Rig {
         shuffle(random, &mut rig.members);
         rig
     }
-}
-
-/// Whether a tree that breaks no other rule keeps the limits.
-pub fn fits(tree: &Tree) -> bool {
-    let encoded = tree.normal_form();
-    encoded.bytes.len() <= MOST_BYTES && encoded.rows.len() <= MOST_ROWS
 }
 
 /// The name of the next member of a writer.

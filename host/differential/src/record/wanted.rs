@@ -4,6 +4,7 @@ use super::rig::{self, BYTES, Rig, shuffle};
 use crate::grow;
 use crate::random::Random;
 use crate::tree::{Body, Tree};
+use crate::twin::twin;
 
 /// A reader of some of the writer's members in any order, now and then with one
 /// that is renamed, retyped, doubled or new.
@@ -55,7 +56,7 @@ fn stranger(random: &mut Random) -> Tree {
 fn change(random: &mut Random, members: &mut Vec<Tree>) {
     let place = random.below(members.len());
     let member = &mut members[place];
-    match random.below(10) {
+    match random.below(12) {
         0 => member.name = None,
         1 => member.name = Some(Vec::new()),
         2 => member.name = Some(rig::name(random)),
@@ -64,6 +65,7 @@ fn change(random: &mut Random, members: &mut Vec<Tree>) {
             members.insert(random.between(place, members.len()), copy);
         }
         4 => member.body = Body::Plain(random.pick(&BYTES)),
-        _ => member.body = grow::twin(random, member).body,
+        5 => member.body = Body::Text,
+        _ => member.body = twin(random, member).0.body,
     }
 }

@@ -16,6 +16,12 @@ pub fn add(limits: &mut Limits) {
     let inner = cluster(members.clone());
     members.push(inner);
     every_part(limits, "members in members", &cluster(members), 200);
+    let mut wide = vec![plain(0x05); 254];
+    wide.push(plain(0x21));
+    every_part(limits, "255 members", &cluster(wide.clone()), 255);
+    wide.truncate(253);
+    wide.push(array(1, plain(0x0A)));
+    every_part(limits, "an array in row 255", &cluster(wide), 280);
     let records = cluster(vec![plain(0x06), text(), enumeration(0x15, 5)]);
     for element in scalars.chain([text(), records]) {
         every_part(limits, "elements", &array(1, element.clone()), 60);

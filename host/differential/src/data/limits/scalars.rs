@@ -1,8 +1,9 @@
 //! Every scalar code at its edges, cut and with bytes left over; Booleans and
 //! enumerations at their limits.
 
-use super::{Both, Limits, enumeration, every_scalar, plain};
+use super::{Both, Limits, array, enumeration, every_scalar, plain};
 use crate::data::scalar::{edges, numbers, value, width};
+use crate::tree::Tree;
 
 pub fn add(limits: &mut Limits) {
     for (code, tree) in every_scalar() {
@@ -30,7 +31,7 @@ fn zeros(length: usize) -> Both {
 }
 
 /// A scalar whose last number is this one.
-fn add_edge(limits: &mut Limits, code: u8, tree: &crate::tree::Tree, edge: &[u8]) {
+fn add_edge(limits: &mut Limits, code: u8, tree: &Tree, edge: &[u8]) {
     let (bytes, count) = numbers(code);
     let mut data = Both::new();
     for byte in 1..count as u8 {
@@ -81,13 +82,28 @@ fn enumerations(limits: &mut Limits) {
                 let number = number & (u64::MAX >> (64 - 8 * bytes)) as u32;
                 let data = Both::new().number(&number.to_be_bytes()[4 - bytes..]);
                 let what = format!("number {number} of {items} items, code {code:02X}");
+                let value = Some((1, u64::from(number)));
                 if number < items {
-                    limits.accepted(what, &tree, data, 1);
-                    limits.part(&[], 0, bytes, Some((1, u64::from(number))));
+                    limits.accepted(what.clone(), &tree, data.clone(), 1);
+                    limits.part(&[], 0, bytes, value);
                 } else {
-                    limits.refused(what, &tree, data, 23, 0);
+                    limits.refused(what.clone(), &tree, data.clone(), 23, 0);
                 }
+                last_of_many(limits, what, &tree, &data, number < items);
             }
         }
+    }
+}
+
+/// The same as the last of several elements, which may be judged together.
+fn last_of_many(limits: &mut Limits, what: String, element: &Tree, last: &Both, fits: bool) {
+    let before = Both::new().word(9).plain(&vec![0; 8 * last.len()]);
+    let place = before.len();
+    let data = before.then(last);
+    let tree = array(1, element.clone());
+    let what = format!("{what}, the last of nine");
+    match fits {
+        true => limits.accepted(what, &tree, data, 10),
+        false => limits.refused(what, &tree, data, 23, place),
     }
 }

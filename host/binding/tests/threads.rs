@@ -1,0 +1,134 @@
+//! The entries share nothing: called from many threads at once, on the same input
+//! and on different ones, each gives what it gives alone.
+
+use std::sync::Barrier;
+use std::thread;
+
+use kerbcanopy::{
+    Answer, Checked, Compared, Part, Value, check_data, check_descriptor, compare,
+    from_little_endian, normal_form, read_record, read_value, to_little_endian, view,
+};
+
+const THREADS: usize = 8;
+const ROUNDS: usize = 40;
+
+/// A descriptor, another, data under the first, and a path into it.
+struct Input {
+    first: Vec<u8>,
+    second: Vec<u8>,
+    data: Vec<u8>,
+    path: Vec<u32>,
+}
+
+/// What every entry gives for an input, with every byte of the outputs.
+#[derive(Debug, PartialEq, Eq)]
+struct Given {
+    checked: Box<Checked>,
+    compared: Compared,
+    judged: Answer,
+    part: Part,
+    value: Value,
+    outputs: [(Answer, Vec<u8>); 4],
+}
+
+impl Given {
+    fn of(input: &Input) -> Given {
+        let [first, second, data] = [&input.first[..], &input.second, &input.data];
+        let output = |write: &dyn Fn(&mut [u8]) -> Answer| {
+            let mut out = vec![0xA5; 5000];
+            (write(&mut out), out)
+        };
+        Given {
+            checked: Box::new(check_descriptor(first)),
+            compared: compare(first, second),
+            judged: check_data(first, data),
+            part: view(first, data, &input.path),
+            value: read_value(first, data, &input.path),
+            outputs: [
+                output(&|out| normal_form(first, out)),
+                output(&|out| to_little_endian(first, data, out)),
+                output(&|out| from_little_endian(first, data, out)),
+                output(&|out| read_record(first, second, data, out)),
+            ],
+        }
+    }
+}
+
+/// A descriptor of this code whose size follows from its body.
+fn descriptor(code: u8, body: &[u8]) -> Vec<u8> {
+    let size = (4 + body.len() as u16).to_be_bytes();
+    [&[size[0], size[1], 0x40, code], body].concat()
+}
+
+fn cluster(members: &[Vec<u8>]) -> Vec<u8> {
+    let count = (members.len() as u16).to_be_bytes();
+    descriptor(0x50, &[&count[..], &members.concat()].concat())
+}
+
+/// A byte whose name is this number in three digits.
+fn named(number: usize) -> Vec<u8> {
+    let name = format!("{number:03}");
+    descriptor(0x05, &[&[3], name.as_bytes()].concat())
+}
+
+/// Accepted and refused ones, among them the widest and the deepest descriptor.
+fn inputs() -> Vec<Input> {
+    let wide: Vec<Vec<u8>> = (0..255).map(named).collect();
+    let back: Vec<Vec<u8>> = wide.iter().rev().cloned().collect();
+    let deep = |code| (0..7).fold(descriptor(code, &[]), |inner, _| cluster(&[inner]));
+    let doubles = descriptor(
+        0x40,
+        &[&[0, 1][..], &[0xFF; 4], &descriptor(0x0A, &[])].concat(),
+    );
+    let many: Vec<u8> = [&[0, 0, 2, 0][..], &[0x40, 1, 2, 3, 4, 5, 6, 7].repeat(512)].concat();
+    let input = |first: &[u8], second: &[u8], data: &[u8], path: &[u32]| Input {
+        first: first.to_vec(),
+        second: second.to_vec(),
+        data: data.to_vec(),
+        path: path.to_vec(),
+    };
+    let bytes: Vec<u8> = (0..255).collect();
+    vec![
+        input(&cluster(&wide), &cluster(&back), &bytes, &[254]),
+        input(&cluster(&wide), &cluster(&wide[7..90]), &bytes, &[]),
+        input(&deep(0x02), &deep(0x06), &[0xFF, 0xFE], &[0; 7]),
+        input(&doubles, &doubles, &many, &[511]),
+        input(&doubles, &cluster(&wide), &many[1..], &[0]),
+        input(&doubles[1..], &deep(0x21), &many, &[1, 1]),
+        input(&cluster(&[deep(0x21)]), &[], &[1], &[]),
+        input(&[], &[], &[], &[]),
+    ]
+}
+
+/// Every thread starts at another input, so that at any time some ask about the
+/// same and others about different ones.
+fn ask(thread: usize, inputs: &[Input], alone: &[Given]) {
+    for round in 0..ROUNDS {
+        for turn in 0..inputs.len() {
+            let number = (turn + thread / 2 * (round % 3)) % inputs.len();
+            let given = Given::of(&inputs[number]);
+            assert!(given == alone[number], "input {number} in thread {thread}");
+        }
+    }
+}
+
+#[test]
+fn many_threads_get_what_one_gets() {
+    let inputs = inputs();
+    let alone: Vec<Given> = inputs.iter().map(Given::of).collect();
+    let accepted = alone
+        .iter()
+        .filter(|given| given.judged.number == 0)
+        .count();
+    assert_eq!(accepted, 4);
+    let together = Barrier::new(THREADS);
+    thread::scope(|scope| {
+        for number in 0..THREADS {
+            let (inputs, alone, together) = (&inputs, &alone, &together);
+            scope.spawn(move || {
+                together.wait();
+                ask(number, inputs, alone);
+            });
+        }
+    });
+}

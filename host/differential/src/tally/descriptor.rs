@@ -1,0 +1,181 @@
+//! Counts what the check of a descriptor met.
+
+use reference::{Checked, MOST_BYTES, Row};
+
+use super::Tally;
+use super::lines::Of;
+use super::met::{Coded, Deep};
+use crate::entry::Entry;
+use crate::kind::Kind;
+
+fn word(bytes: &[u8], place: usize) -> usize {
+    usize::from(bytes[place]) << 8 | usize::from(bytes[place + 1])
+}
+
+impl Tally {
+    /// Counts a case of a descriptor.
+    pub fn descriptor(&mut self, kind: Kind, bytes: &[u8], checked: &Checked) {
+        self.case(kind, checked.answer);
+        self.answered(Entry::CheckDescriptor, checked.answer);
+        let place = checked.answer.place as usize;
+        match checked.answer.number {
+            0 => self.rows(bytes, &checked.rows[..place]),
+            1 => self.lines.count(Of::TooLong, bytes.len()),
+            12 => self.lines.count(Of::Behind, bytes.len() - place),
+            number => self.refused(bytes, number, place),
+        }
+    }
+
+    fn rows(&mut self, bytes: &[u8], rows: &[Row]) {
+        self.lines.count(Of::Length, bytes.len());
+        self.lines.count(Of::Rows, rows.len());
+        let deepest = rows.iter().map(|row| row.depth).max();
+        self.deep(Deep::Accepted, usize::from(deepest.unwrap_or(0)));
+        let mut parents = [0; 9];
+        for row in rows {
+            let depth = usize::from(row.depth);
+            self.coded(row.code as u8, standing(depth, parents[depth - 1]));
+            parents[depth] = row.code;
+            self.lines.count(Of::Start, usize::from(row.start));
+            self.lines.count(Of::Size, usize::from(row.size));
+            self.body(bytes, row);
+            if row.name_place > 0 {
+                self.name(row);
+            }
+        }
+    }
+
+    fn body(&mut self, bytes: &[u8], row: &Row) {
+        let (count, inside) = (usize::from(row.count), usize::from(row.start) + 6);
+        match row.code {
+            0x15..=0x17 => self.items(bytes, count, inside),
+            0x19..=0x1E => {
+                self.lines.count(Of::Pairs, count);
+                for pair in (0..count).map(|pair| inside + 4 * pair) {
+                    self.lines.count(Of::Base, word(bytes, pair));
+                    self.lines.count(Of::Exponent, word(bytes, pair + 2));
+                }
+            }
+            0x40 => self.lines.count(Of::Dimensions, count),
+            0x50 => self.lines.count(Of::Members, count),
+            _ => {}
+        }
+    }
+
+    /// Descriptors start at even places, so an odd end has a fill byte.
+    fn items(&mut self, bytes: &[u8], count: usize, mut place: usize) {
+        self.lines.count(Of::Items, count);
+        for _ in 0..count {
+            let length = usize::from(bytes[place]);
+            self.lines.count(Of::ItemLength, length);
+            place += 1 + length;
+        }
+        if place % 2 == 1 {
+            self.lines.count(Of::FillAfter, count);
+        }
+    }
+
+    fn name(&mut self, row: &Row) {
+        let length = usize::from(row.name_length);
+        self.lines.count(Of::NameLength, length);
+        self.lines.count(Of::NamePlace, usize::from(row.name_place));
+        if usize::from(row.start + row.size) == MOST_BYTES {
+            self.lines.count(Of::LastName, length);
+        }
+    }
+
+    /// A descriptor refused with 2 to 11.
+    fn refused(&mut self, bytes: &[u8], number: u32, place: usize) {
+        let Some(spot) = Spot::of(bytes, place) else {
+            return;
+        };
+        self.deep(Deep::Refused(number), spot.depth);
+        match number {
+            2 => self.lines.count(Of::Left, spot.end - place),
+            3 => self.lines.count(Of::HighSize, word(bytes, place)),
+            4 => self.lines.count(Of::WrongSize, word(bytes, place)),
+            5 => self.lines.count(Of::Foreign, usize::from(bytes[place + 3])),
+            8..=11 => self.refused_body(bytes, number, place, spot.in_array),
+            _ => {}
+        }
+    }
+
+    fn refused_body(&mut self, bytes: &[u8], number: u32, place: usize, in_array: bool) {
+        let (column, wrong_count) = match bytes[place + 3] {
+            0x15..=0x17 => (1, Some(Of::WrongItems)),
+            0x19..=0x1E => (2, Some(Of::WrongPairs)),
+            0x30 => (3, None),
+            0x40 if in_array => (6, None),
+            0x40 => (4, Some(Of::WrongDimensions)),
+            0x50 => (5, Some(Of::WrongMembers)),
+            _ => (0, None),
+        };
+        self.bodies.count(number as usize - 8, column);
+        match (number, wrong_count) {
+            (9, Some(of)) => self.lines.count(of, word(bytes, place + 4)),
+            (10, Some(Of::WrongItems)) => {
+                self.lines.count(Of::WrongFillAfter, word(bytes, place + 4));
+            }
+            _ => {}
+        }
+    }
+}
+
+/// How a descriptor stands in its parent, which has this code.
+fn standing(depth: usize, parent: u16) -> Coded {
+    match (depth, parent) {
+        (1, _) => Coded::Top,
+        (_, 0x40) => Coded::Element,
+        _ => Coded::Member,
+    }
+}
+
+/// Where a descriptor stands.
+#[derive(Clone, Copy)]
+struct Spot {
+    start: usize,
+    depth: usize,
+    /// Where its parent ends.
+    end: usize,
+    in_array: bool,
+}
+
+impl Spot {
+    /// The descriptor that starts here, where all before it are in order.
+    fn of(bytes: &[u8], place: usize) -> Option<Spot> {
+        let top = Spot {
+            start: 0,
+            depth: 1,
+            end: bytes.len(),
+            in_array: false,
+        };
+        top.find(bytes, place)
+    }
+
+    /// This descriptor or the one inside it that starts at the place.
+    fn find(self, bytes: &[u8], place: usize) -> Option<Spot> {
+        if self.start == place {
+            return Some(self);
+        }
+        let inside = self.start + 6;
+        let count = || word(bytes, self.start + 4);
+        let (first, children) = match bytes[self.start + 3] {
+            0x40 => (inside + 4 * count(), 1),
+            0x50 => (inside, count()),
+            _ => return None,
+        };
+        let mut child = Spot {
+            start: first,
+            depth: self.depth + 1,
+            end: self.start + word(bytes, self.start),
+            in_array: bytes[self.start + 3] == 0x40,
+        };
+        for _ in 0..children {
+            if let Some(found) = child.find(bytes, place) {
+                return Some(found);
+            }
+            child.start += word(bytes, child.start);
+        }
+        None
+    }
+}
