@@ -25,7 +25,7 @@ pub extern "C" fn kc_check_descriptor_into(
     ensures answer { λ _. ⌜ now (answer .exit) ≡ answerNumbers (descriptorCheck (now (descriptor .entry)) .answer) ⌝ }
     ensures table { λ _. ⌜ now (table .exit) ≡ tableNumbers (descriptorCheck (now (descriptor .entry)) .rows) ⌝ }
 {
-    let checked = descriptor::check::check_descriptor(descriptor);
+    let checked = super::kc_check_descriptor(descriptor);
     let found = checked.answer;
     put_answer(found, answer);
     let rows = checked.rows;
@@ -43,7 +43,7 @@ pub extern "C" fn kc_compare_into(
     ensures answer { λ _. ⌜ now (answer .exit) ≡ answerNumbers (comparison (now (first .entry)) (now (second .entry)) .answer) ⌝ }
     ensures equal { λ _. ⌜ now (equal .exit) ≡ truth (comparison (now (first .entry)) (now (second .entry)) .equal) ⌝ }
 {
-    let compared = canonical::compare::compare(first, second);
+    let compared = super::kc_compare(first, second);
     put_answer(compared.answer, answer);
     put_truth(compared.equal, equal);
 }
@@ -53,7 +53,7 @@ pub extern "C" fn kc_normal_form_into(descriptor: &[u8], out: &mut [u8], answer:
     ensures answer { λ _. ⌜ now (answer .exit) ≡ answerNumbers (normalForm (now (descriptor .entry)) (now (out .entry)) .answer) ⌝ }
     ensures wrote { λ _. ⌜ now (out .exit) ≡ normalForm (now (descriptor .entry)) (now (out .entry)) .out ⌝ }
 {
-    let normal = canonical::normal::normal_form(descriptor, out);
+    let normal = super::kc_normal_form(descriptor, out);
     put_answer(normal, answer);
 }
 
@@ -61,7 +61,7 @@ pub extern "C" fn kc_normal_form_into(descriptor: &[u8], out: &mut [u8], answer:
 pub extern "C" fn kc_check_data_into(descriptor: &[u8], data: &[u8], answer: &mut [u32; 3])
     ensures { λ _. ⌜ now (answer .exit) ≡ answerNumbers (dataCheck (now (descriptor .entry)) (now («data» .entry))) ⌝ }
 {
-    let walked = flattened::check::check_data(descriptor, data);
+    let walked = super::kc_check_data(descriptor, data);
     put_answer(walked, answer);
 }
 
@@ -79,7 +79,7 @@ pub extern "C" fn kc_view_into(
     ensures start { λ _. ⌜ now (start .exit) ≡ located (now (descriptor .entry)) (now («data» .entry)) (now (path .entry)) .start ⌝ }
     ensures length { λ _. ⌜ now (length .exit) ≡ located (now (descriptor .entry)) (now («data» .entry)) (now (path .entry)) .length ⌝ }
 {
-    let part = access::part::locate(descriptor, data, path);
+    let part = super::kc_view(descriptor, data, path);
     put_answer(part.answer, answer);
     *start = part.start as u64;
     *length = part.length as u64;
@@ -115,7 +115,7 @@ pub extern "C" fn kc_to_little_endian_into(
     ensures answer { λ _. ⌜ now (answer .exit) ≡ answerNumbers (toLittleEndian (now (descriptor .entry)) (now («data» .entry)) (now (out .entry)) .answer) ⌝ }
     ensures wrote { λ _. ⌜ now (out .exit) ≡ toLittleEndian (now (descriptor .entry)) (now («data» .entry)) (now (out .entry)) .out ⌝ }
 {
-    let little = byteorder::little::to_little_endian(descriptor, data, out);
+    let little = super::kc_to_little_endian(descriptor, data, out);
     put_answer(little, answer);
 }
 
@@ -129,7 +129,7 @@ pub extern "C" fn kc_from_little_endian_into(
     ensures answer { λ _. ⌜ now (answer .exit) ≡ answerNumbers (fromLittleEndian (now (descriptor .entry)) (now («data» .entry)) (now (out .entry)) .answer) ⌝ }
     ensures wrote { λ _. ⌜ now (out .exit) ≡ fromLittleEndian (now (descriptor .entry)) (now («data» .entry)) (now (out .entry)) .out ⌝ }
 {
-    let big = byteorder::little::from_little_endian(descriptor, data, out);
+    let big = super::kc_from_little_endian(descriptor, data, out);
     put_answer(big, answer);
 }
 
@@ -144,6 +144,6 @@ pub extern "C" fn kc_read_record_into(
     ensures answer { λ _. ⌜ now (answer .exit) ≡ answerNumbers (resolved (now (writer .entry)) (now (reader .entry)) (now («data» .entry)) (now (out .entry)) .answer) ⌝ }
     ensures wrote { λ _. ⌜ now (out .exit) ≡ resolved (now (writer .entry)) (now (reader .entry)) (now («data» .entry)) (now (out .entry)) .out ⌝ }
 {
-    let record = resolution::reading::read_record(writer, reader, data, out);
+    let record = super::kc_read_record(writer, reader, data, out);
     put_answer(record, answer);
 }
