@@ -23,7 +23,7 @@ use Rattle.flattened.specs.Order.{big}
 use Rattle.flattened.specs.Token.{Token}
 use Rattle.flattened.specs.Walk.{walk, walked}
 use Rattle.flattened.specs.inner.Types.{typeOf, typeAt}
-use Rattle.flattened.proofs.Checking.{top-stands}
+use Rattle.walking.proofs.Checking.{top-stands}
 use Rattle.flattened.proofs.Refusals.{refused-number}
 use Rattle.access.specs.inner.Spots.{Lies, spot}
 use Rattle.access.proofs.Outcomes.{is-read}

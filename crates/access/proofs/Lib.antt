@@ -5,8 +5,5 @@ pub mod Elements
 pub mod Members
 pub mod Stepping
 pub mod Paths
-pub mod Values
-pub mod Signs
 pub mod Answers
 pub mod Parts
-pub mod Readings

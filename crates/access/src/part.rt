@@ -4,7 +4,7 @@ use super::reach::Reach;
 use super::steps::spot_at;
 use descriptor::answer::Answer;
 use descriptor::answer::answered;
-use flattened::check::check_data;
+use walking::check::check_data;
 ghost use mathlib.Core.Path.{_≡_};
 ghost use Prim.Native.Nat.{_+_, _≤_};
 ghost use lib.ListN.{length};

@@ -5,7 +5,7 @@ use flattened::extent::Extent;
 use flattened::extent::extent_of;
 use flattened::order::Order;
 use flattened::progress::Progress;
-use flattened::walk::walk;
+use walking::walk::walk;
 ghost use mathlib.Core.Path.{_≡_};
 ghost use Rattle.access.specs.inner.Past.{Values, pastValues};
 

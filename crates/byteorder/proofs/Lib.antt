@@ -1,10 +1,4 @@
 pub mod Reversing
 pub mod RunTurns
 pub mod Widths
-pub mod Tokens
-pub mod Remaining
-pub mod Pieces
-pub mod Parts
 pub mod Chained
-pub mod Whole
-pub mod Answering

@@ -1,11 +1,4 @@
-// The little-endian form of flattened data, there and back.
-pub mod little;
+// Numbers written in the other byte order: one, a row of them, and those of scalars.
 pub mod numbers;
 pub mod runs;
 pub mod scalars;
-pub mod sizes;
-pub mod texts;
-pub mod turn;
-
-pub use little::from_little_endian;
-pub use little::to_little_endian;

@@ -5,7 +5,7 @@ use descriptor::header::reserved_at;
 use descriptor::header::size_at;
 use descriptor::inside::inside_of;
 use descriptor::limits::DEPTH_LIMIT;
-use descriptor::validate::validate;
+use validation::validate::validate;
 ghost use mathlib.Core.Path.{_≡_};
 ghost use Prim.Native.Nat.{_≤_, _<_, _^_};
 ghost use lib.ListN.{length};

@@ -42,11 +42,11 @@ use Rattle.flattened.specs.Walk.{scalarAt, plainAt, arrayAt, repeat, walkFields
 use Rattle.flattened.specs.Answers.{dataCheck}
 use Rattle.flattened.proofs.Codes.{isMeasured}
 use Rattle.access.specs.Path.{Spot, memberAt, stepAt, stepInto, spotAt, located}
-use Rattle.access.specs.Values.{ofSingle, ofDouble, complement, valueKind, valueBits, valueOf, isValue, codeOf, valueAt, numberOf, noValue, readValue}
+use Rattle.reading.specs.Values.{ofSingle, ofDouble, complement, valueKind, valueBits, valueOf, isValue, codeOf, valueAt, numberOf, noValue, readValue}
 use Rattle.access.specs.declared.part.Part.{Part}
-use Rattle.access.specs.declared.value.Value.{Value}
-use Rattle.access.specs.declared.value.Reading.{Reading}
-use Rattle.access.proofs.Values.{inside, single-width, signed-narrow, value-signed, value-unsigned, value-enumeration, value-single, value-double, value-flag}
+use Rattle.reading.specs.declared.value.Value.{Value}
+use Rattle.reading.specs.declared.value.Reading.{Reading}
+use Rattle.reading.proofs.Values.{inside, single-width, signed-narrow, value-signed, value-unsigned, value-enumeration, value-single, value-double, value-flag}
 use Rattle.flattened.proofs.Refusals.{refused-number}
 use Rattle.demands.proofs.Accepted.{Described, described-read}
 use Rattle.demands.proofs.Data.{UsesAll, uses-exactly, walked-answer, all-walked}

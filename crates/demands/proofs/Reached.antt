@@ -8,11 +8,11 @@ use lib.ListN.{length}
 use Rattle.descriptor.specs.Tree.{Tree, node, Forest, nil, cons}
 use Rattle.flattened.specs.Order.{big}
 use Rattle.access.specs.Path.{noPart}
-use Rattle.access.specs.Values.{valueOf, isValue, codeOf, noValue}
+use Rattle.reading.specs.Values.{valueOf, isValue, codeOf, noValue}
 use Rattle.access.specs.declared.part.Part.{Part}
-use Rattle.access.specs.declared.value.Value.{Value as Given}
-use Rattle.access.specs.declared.value.Value.the-variants.{Nothing}
-use Rattle.access.specs.declared.value.Reading.{Reading}
+use Rattle.reading.specs.declared.value.Value.{Value as Given}
+use Rattle.reading.specs.declared.value.Value.the-variants.{Nothing}
+use Rattle.reading.specs.declared.value.Reading.{Reading}
 use Rattle.values.specs.Value.{Value, numbers, characters, elements, parts, Values, none, also, inOrder, flatten}
 use Rattle.demands.proofs.Parts.{partFrom}
 use Rattle.demands.proofs.Bits.{given}

@@ -26,11 +26,11 @@ use Rattle.flattened.specs.Token.{Token}
 use Rattle.flattened.specs.Walk.{repeat, walk, walkAll}
 use Rattle.flattened.proofs.Codes.{isMeasured}
 use Rattle.access.specs.Path.{Spot, memberAt, stepAt, stepInto, spotAt, noPart, partOf, located, viewed}
-use Rattle.access.specs.Values.{valueOf, isValue, valueAt, numberOf, noValue, readValue}
+use Rattle.reading.specs.Values.{valueOf, isValue, valueAt, numberOf, noValue, readValue}
 use Rattle.access.specs.declared.part.Part.{Part}
-use Rattle.access.specs.declared.value.Value.{Value as Given}
-use Rattle.access.specs.declared.value.Value.the-variants.{Nothing}
-use Rattle.access.proofs.Values.{inside, value-none}
+use Rattle.reading.specs.declared.value.Value.{Value as Given}
+use Rattle.reading.specs.declared.value.Value.the-variants.{Nothing}
+use Rattle.reading.proofs.Values.{inside, value-none}
 use Rattle.values.specs.Value.{Value, numbers, characters, elements, parts, Values, count, AllBelow, Scalar, Fits, plain, enumeration, quantity, string, array, cluster, AllFit, without, element, EachFits, done, member, inOrder, flatten, flattenElements, flattenMembers, Data}
 use Rattle.byteorder.specs.Reversal.{numberCount, numberWidth}
 use Rattle.values.specs.Pieces.{piecesAt}

@@ -23,9 +23,9 @@ use Rattle.flattened.specs.Walk.{scalarAt, plainAt, textAt, sizesAt, sizesFit, 
 use Rattle.flattened.specs.Answers.{dataCheck}
 use Rattle.byteorder.specs.Reversal.{reverseEach, numberCount, numberWidth, reverseToken, reversed, turned, toLittleEndian}
 use Rattle.access.specs.Path.{memberAt, stepAt, spotAt}
-use Rattle.access.specs.Values.{ofSingle, ofDouble, valueOf, isValue, numberOf, readValue}
-use Rattle.access.specs.declared.value.Reading.{Reading}
-use Rattle.access.specs.declared.value.Value.the-variants.{Unsigned, Signed}
+use Rattle.reading.specs.Values.{ofSingle, ofDouble, valueOf, isValue, numberOf, readValue}
+use Rattle.reading.specs.declared.value.Reading.{Reading}
+use Rattle.reading.specs.declared.value.Value.the-variants.{Unsigned, Signed}
 use Rattle.resolution.specs.Record.{membersFrom, writerFields, isAmong, readerNames, readerFields, matches, namesakes, searched, searchNumber, memberFound, memberBytes, joinedBytes, recordBytes, resolved}
 
 -- a row by its seven numbers, in document 01's order

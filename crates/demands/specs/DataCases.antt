@@ -22,7 +22,7 @@ use Rattle.flattened.specs.Walk.{scalarAt, plainAt, textAt, sizesAt, sizesFit, 
 use Rattle.flattened.specs.Answers.{dataCheck}
 use Rattle.byteorder.specs.Reversal.{reverseEach, numberCount, numberWidth, reverseToken, reversed, turned, toLittleEndian, fromLittleEndian}
 use Rattle.access.specs.Path.{memberAt, stepAt, spotAt, noPart, partOf, located}
-use Rattle.access.specs.Values.{ofSingle, ofDouble, valueOf, isValue, numberOf, noValue, readValue, valueKind, complement, valueBits}
+use Rattle.reading.specs.Values.{ofSingle, ofDouble, valueOf, isValue, numberOf, noValue, readValue, valueKind, complement, valueBits}
 use Rattle.access.specs.declared.part.Part.{Part}
 use Rattle.demands.specs.Cases.{p1, p5, p6, room}
 

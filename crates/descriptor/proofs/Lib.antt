@@ -1,8 +1,5 @@
 pub mod CodeKinds
 pub mod FieldKinds
-pub mod FieldSteps
-pub mod Members
-pub mod Names
 pub mod Outcomes
 pub mod Rows
 pub mod Runs
@@ -11,7 +8,6 @@ pub mod Standing
 pub mod Bodies
 pub mod Steps
 pub mod Filling
-pub mod Resuming
 pub mod Places
 pub mod Checked
 pub mod Widths

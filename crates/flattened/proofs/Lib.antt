@@ -5,11 +5,8 @@ pub mod Extents
 pub mod Capped
 pub mod Refusals
 pub mod Progresses
-pub mod Maxima
 pub mod Swapped
 pub mod Steps
-pub mod Keeping
-pub mod Crossing
 pub mod Turns
 pub mod Strings
 pub mod Products
@@ -19,7 +16,4 @@ pub mod Arms
 pub mod Cases
 pub mod ExtentTurns
 pub mod Scalars
-pub mod Passing
-pub mod Walks
-pub mod Checking
 pub mod Named

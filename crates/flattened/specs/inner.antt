@@ -4,7 +4,6 @@ pub mod Progress
 pub mod Sizes
 pub mod Extent
 pub mod Types
-pub mod Largest
 pub mod Columns
 pub mod Arrays
 pub mod Checks

@@ -10,7 +10,7 @@ ghost use Rattle.canonical.specs.Equality.{comparison};
 ghost use Rattle.canonical.specs.Normal.{normalForm};
 ghost use Rattle.flattened.specs.Answers.{dataCheck};
 ghost use Rattle.access.specs.Path.{located};
-ghost use Rattle.access.specs.Values.{readValue, valueKind, valueBits};
+ghost use Rattle.reading.specs.Values.{readValue, valueKind, valueBits};
 ghost use Rattle.byteorder.specs.Reversal.{toLittleEndian, fromLittleEndian};
 ghost use Rattle.resolution.specs.Record.{resolved};
 ghost use Rattle.layout.specs.Numbers.{answerNumbers, tableNumbers, truth};

@@ -3,18 +3,18 @@
 pub mod lent;
 
 use access::part::Part;
-use access::value::value_bits;
-use access::value::value_kind;
 use canonical::Compared;
 use descriptor::answer::Answer;
 use descriptor::answer::Checked;
+use reading::value::value_bits;
+use reading::value::value_kind;
 ghost use mathlib.Core.Path.{_≡_};
 ghost use Rattle.descriptor.specs.Answers.{descriptorCheck, withTable};
 ghost use Rattle.canonical.specs.Equality.{comparison};
 ghost use Rattle.canonical.specs.Normal.{normalForm};
 ghost use Rattle.flattened.specs.Answers.{dataCheck};
 ghost use Rattle.access.specs.Path.{located};
-ghost use Rattle.access.specs.Values.{readValue, valueKind, valueBits};
+ghost use Rattle.reading.specs.Values.{readValue, valueKind, valueBits};
 ghost use Rattle.byteorder.specs.Reversal.{toLittleEndian, fromLittleEndian};
 ghost use Rattle.resolution.specs.Record.{resolved};
 
@@ -25,7 +25,7 @@ ghost use Rattle.resolution.specs.Record.{resolved};
 pub extern "C" fn kc_check_descriptor(descriptor: &[u8]) -> Checked
     ensures { λ r. ⌜ r ≡ withTable (descriptorCheck (now (descriptor .entry))) ⌝ }
 {
-    descriptor::check::check_descriptor(descriptor)
+    tabulation::check::check_descriptor(descriptor)
 }
 
 // Whether two descriptors are equal: the same tree, low codes, counts, items, pairs and names; "Only the reserved byte is ignored."
@@ -57,7 +57,7 @@ pub extern "C" fn kc_normal_form(descriptor: &[u8], out: &mut [u8]) -> Answer
 pub extern "C" fn kc_check_data(descriptor: &[u8], data: &[u8]) -> Answer
     ensures { λ r. ⌜ r ≡ dataCheck (now (descriptor .entry)) (now («data» .entry)) ⌝ }
 {
-    flattened::check::check_data(descriptor, data)
+    walking::check::check_data(descriptor, data)
 }
 
 // The answer to a reading, with the value's kind and bits, as C takes them.
@@ -88,7 +88,7 @@ pub extern "C" fn kc_read_value(descriptor: &[u8], data: &[u8], path: &[u32]) ->
     ensures kind { λ r. ⌜ r .kind ≡ valueKind (readValue (now (descriptor .entry)) (now («data» .entry)) (now (path .entry)) .value) ⌝ }
     ensures bits { λ r. ⌜ r .bits ≡ valueBits (readValue (now (descriptor .entry)) (now («data» .entry)) (now (path .entry)) .value) ⌝ }
 {
-    let reading = access::reading::read_value(descriptor, data, path);
+    let reading = reading::reading::read_value(descriptor, data, path);
     let answer = reading.answer;
     let value = reading.value;
     let kind = value_kind(value);
@@ -104,7 +104,7 @@ pub extern "C" fn kc_to_little_endian(descriptor: &[u8], data: &[u8], out: &mut 
     ensures answer { λ r. ⌜ r ≡ toLittleEndian (now (descriptor .entry)) (now («data» .entry)) (now (out .entry)) .answer ⌝ }
     ensures wrote { λ _. ⌜ now (out .exit) ≡ toLittleEndian (now (descriptor .entry)) (now («data» .entry)) (now (out .entry)) .out ⌝ }
 {
-    byteorder::little::to_little_endian(descriptor, data, out)
+    turning::little::to_little_endian(descriptor, data, out)
 }
 
 // Writes the data whose little-endian form `data` is to the front of `out`. Its refusals are those of the data check with lengths, sizes
@@ -114,7 +114,7 @@ pub extern "C" fn kc_from_little_endian(descriptor: &[u8], data: &[u8], out: &mu
     ensures answer { λ r. ⌜ r ≡ fromLittleEndian (now (descriptor .entry)) (now («data» .entry)) (now (out .entry)) .answer ⌝ }
     ensures wrote { λ _. ⌜ now (out .exit) ≡ fromLittleEndian (now (descriptor .entry)) (now («data» .entry)) (now (out .entry)) .out ⌝ }
 {
-    byteorder::little::from_little_endian(descriptor, data, out)
+    turning::little::from_little_endian(descriptor, data, out)
 }
 
 // Reads the rig's data in the reader's shape: writes "the reader's members' bytes joined, in the reader's order" to the front of `out`, and
@@ -135,5 +135,5 @@ pub extern "C" fn kc_read_record(
     ensures answer { λ r. ⌜ r ≡ resolved (now (writer .entry)) (now (reader .entry)) (now («data» .entry)) (now (out .entry)) .answer ⌝ }
     ensures wrote { λ _. ⌜ now (out .exit) ≡ resolved (now (writer .entry)) (now (reader .entry)) (now («data» .entry)) (now (out .entry)) .out ⌝ }
 {
-    resolution::reading::read_record(writer, reader, data, out)
+    records::reading::read_record(writer, reader, data, out)
 }

@@ -8,7 +8,4 @@ pub mod Apart
 pub mod Seeking
 pub mod Chosen
 pub mod Planned
-pub mod Topmost
 pub mod Joined
-pub mod Gathered
-pub mod Answering

@@ -3,4 +3,3 @@ pub mod Names
 pub mod Searching
 pub mod Picking
 pub mod Tops
-pub mod Ready

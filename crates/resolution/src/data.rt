@@ -7,7 +7,7 @@ use descriptor::step::refuse;
 use flattened::cursor::Cursor;
 use flattened::order::Order;
 use flattened::progress::Progress;
-use flattened::walk::walk;
+use walking::walk::walk;
 ghost use mathlib.Core.Path.{_≡_};
 ghost use lib.ListN.{length};
 ghost use Rattle.descriptor.specs.inner.Steps.{counted};

@@ -1,4 +1,4 @@
-// A record in a reader's shape.
+// What a record in a reader's shape is made of: the members by name and type, and their bytes.
 pub mod columns;
 pub mod data;
 pub mod equality;
@@ -6,9 +6,7 @@ pub mod joining;
 pub mod names;
 pub mod namesakes;
 pub mod picking;
-pub mod reading;
 pub mod rows;
-pub mod top;
 
 use descriptor::answer::Row;
 

@@ -2,8 +2,8 @@
 use descriptor::answer::Row;
 use descriptor::header::code_at;
 use descriptor::header::size_at;
-use descriptor::table::row_at;
-use descriptor::table::shape;
+use tabulation::table::row_at;
+use tabulation::table::shape;
 ghost use mathlib.Core.Path.{_≡_};
 ghost use Rattle.descriptor.specs.Limits.{depthLimit};
 ghost use Rattle.descriptor.specs.Table.{rowOf};

@@ -11,7 +11,6 @@ use Rattle.descriptor.specs.Tree.{Forest, forestHeight, forestRows}
 use Rattle.descriptor.specs.Table.{forestRowsOf, zeroRow}
 use Rattle.descriptor.specs.inner.Standing.{standingRow, isRead, nextOf, forestOf}
 use Rattle.descriptor.specs.declared.answer.Row.{Row}
-use Rattle.descriptor.specs.declared.table.Open.{Open}
 
 -- the row of a descriptor by its header, its count, and where what is left for a name starts
 unfoldable pub rowRead : List ℕ → ℕ → ℕ → ℕ → ℕ → ℕ → ℕ → Row
@@ -67,7 +66,3 @@ filled s left k t = record {
   n = t .n + forestRows (ahead s k t);
   at = nextOf (standingRow s k (t .at));
 }
-
--- no descriptor
-abbrev pub noneOpen : Open
-noneOpen = record { n = 0; start = 0; size = 0; count = 0; rest = 0; code = 0 }

@@ -1,8 +1,8 @@
 -- `kc_read_value` hands out what `read_value` answers: the answer, and the kind and the bits of the value.
 use mathlib.Core.Path.{_≡_, ap, _∙_}
 use borrow.Author.Needs.{needs}
-use Rattle.access.specs.Values.{valueKind, valueBits}
-use Rattle.access.specs.declared.value.Reading.{Reading}
+use Rattle.reading.specs.Values.{valueKind, valueBits}
+use Rattle.reading.specs.declared.value.Reading.{Reading}
 use Rattle.kerbcanopy.proofs.kc_read_value.Statement.{statement}
 use Rattle.kerbcanopy.proofs.kc_read_value.Tie as tie
 

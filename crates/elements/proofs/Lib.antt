@@ -1,0 +1,3 @@
+pub mod Maxima
+pub mod Keeping
+pub mod Crossing

@@ -1,0 +1,3 @@
+// The value at a path.
+pub mod reading;
+pub mod value;

@@ -1,0 +1,3 @@
+pub mod Topmost
+pub mod Gathered
+pub mod Answering

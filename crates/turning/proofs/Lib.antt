@@ -1,0 +1,6 @@
+pub mod Tokens
+pub mod Remaining
+pub mod Pieces
+pub mod Parts
+pub mod Whole
+pub mod Answering

@@ -1,0 +1,4 @@
+// The check of any bytes as a type descriptor.
+pub mod fields;
+pub mod name;
+pub mod validate;

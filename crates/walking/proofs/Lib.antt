@@ -1,0 +1,4 @@
+pub mod Passing
+pub mod Walks
+pub mod Checking
+pub mod Arounds

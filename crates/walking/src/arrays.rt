@@ -1,0 +1,229 @@
+// The front of an array: its size words, and the elements that are passed in one step.
+use descriptor::header::code_at;
+use descriptor::width::width;
+use elements::columns::across;
+use elements::columns::keeping;
+use elements::largest::largest;
+use flattened::cursor::Cursor;
+use flattened::cursor::Skip;
+use flattened::extent::Extent;
+use flattened::extent::Rule;
+use flattened::extent::extent_of;
+use flattened::extent::rule_of;
+use flattened::order::Order;
+use flattened::progress::Progress;
+use flattened::sizes::Sizes;
+use flattened::sizes::size_words;
+ghost use mathlib.Core.Path.{_≡_};
+ghost use Prim.Native.Nat.{_+_, _*_, _/_, _^_, _≤_, _<_, min};
+ghost use lib.ListN.{length};
+ghost use Rattle.descriptor.specs.Limits.{dataLimit, dimensionLimit};
+ghost use Rattle.descriptor.specs.Header.{codeIn};
+ghost use Rattle.descriptor.specs.Width.{widthOf};
+ghost use Rattle.descriptor.specs.inner.Standing.{Stands};
+ghost use Rattle.flattened.specs.inner.Order.{orderOf};
+ghost use Rattle.flattened.specs.inner.Extent.{typeRule};
+ghost use Rattle.flattened.specs.inner.Types.{typeAt, TypeStands, DataAt};
+ghost use Rattle.elements.specs.inner.Largest.{largest};
+ghost use Rattle.flattened.specs.inner.Arrays.{allKeep, EachKeeps};
+ghost use Rattle.walking.specs.inner.Fronts.{Passes, PassesEither, PassesAround, FrontMet};
+
+// How many elements are passed in one step, and their bytes and tokens.
+pub struct Passed {
+    pub count: usize,
+    pub bytes: usize,
+    pub tokens: usize,
+}
+
+// What the front of an array comes to: nothing is left to walk; or so many elements are, from the cursor on, and so many tokens went
+// before them.
+pub enum Front {
+    Over(Progress),
+    Rest(usize, Cursor, usize),
+}
+
+// How many of n elements of w bytes fit into `room` bytes.
+fn fitting(n: usize, w: usize, room: usize) -> usize
+    requires { ⌜ (0 < w) × (w < 2 ^ 40) × (room ≤ dataLimit) ⌝ }
+    ensures { λ r. ⌜ r ≡ min n (room / w) ⌝ }
+{
+    if n <= room {
+        if n * w <= room {
+            return n;
+        }
+    }
+    room / w
+}
+
+// Whether n scalars of the type at p, of w bytes each, all keep its rule, by the largest of their numbers.
+fn all_keep(d: &[u8], p: usize, w: usize, n: usize, s: &[u8], at: usize, o: Order) -> bool
+    requires { ⌜ Stands (now d) p ⌝ }
+    requires { ⌜ w ≡ widthOf (codeIn (now d) p) ⌝ }
+    requires { ⌜ at + n * w ≤ length (now s) ⌝ }
+    ensures { λ r. ⌜ r ≡ allKeep (typeRule (typeAt (now (d .entry)) p)) (largest (orderOf o) (now (s .entry)) w at n) ⌝ }
+{
+    let rule = rule_of(d, p);
+    match rule {
+        Rule::Any => true,
+        Rule::Below(limit, number) => largest(s, at, w, n, o) < limit,
+    }
+}
+
+// How many of the first of n scalars of the type at p, of w bytes each, keep its rule: all of them, or those before one that does not,
+// which is found by halves.
+fn kept(d: &[u8], p: usize, w: usize, n: usize, s: &[u8], at: usize, o: Order) -> usize
+    requires { ⌜ Stands (now d) p ⌝ }
+    requires { ⌜ w ≡ widthOf (codeIn (now d) p) ⌝ }
+    requires { ⌜ at + n * w ≤ length (now s) ⌝ }
+    ensures { λ r. ⌜ (r ≤ n) × EachKeeps (typeRule (typeAt (now (d .entry)) p)) (orderOf o) (now (s .entry)) w at r ⌝ }
+{
+    if all_keep(d, p, w, n, s, at, o) {
+        return n;
+    }
+    let mut count = 0;
+    let mut span = n;
+    while 1 < span {
+        let half = span / 2;
+        if all_keep(d, p, w, half, s, at + count * w, o) {
+            count += half;
+            span -= half;
+        } else {
+            span = half;
+        }
+    }
+    count
+}
+
+fn none_passed() -> Passed
+    ensures { λ r. ⌜ r ≡ record { count = 0; bytes = 0; tokens = 0 } ⌝ }
+{
+    Passed {
+        count: 0,
+        bytes: 0,
+        tokens: 0,
+    }
+}
+
+// How many of the first of n scalars of the type at p, of w bytes each, are passed in one step: of those that fit, the ones before the
+// first that is refused.
+fn pass_scalars(d: &[u8], p: usize, w: usize, n: usize, s: &[u8], at: usize, o: Order) -> Passed
+    requires { ⌜ Stands (now d) p ⌝ }
+    requires { ⌜ (w ≡ widthOf (codeIn (now d) p)) × (0 < w) ⌝ }
+    requires { ⌜ DataAt (now s) at ⌝ }
+    ensures { λ r. ⌜ Passes (orderOf o) (typeAt (now (d .entry)) p) (now (s .entry)) n at r ⌝ }
+{
+    let most = fitting(n, w, s.len() - at);
+    let count = kept(d, p, w, most, s, at, o);
+    Passed {
+        count,
+        bytes: count * w,
+        tokens: count,
+    }
+}
+
+// So many values, of `tokens` tokens each.
+fn many(count: usize, bytes: usize, tokens: usize) -> Passed
+    requires { ⌜ count * tokens < 2 ^ 64 ⌝ }
+    ensures { λ r. ⌜ r ≡ record { count = count; bytes = bytes; tokens = count * tokens } ⌝ }
+{
+    Passed {
+        count,
+        bytes,
+        tokens: count * tokens,
+    }
+}
+
+// How many of the first of n values of w bytes and `tokens` tokens each are passed in one step: those that fit.
+fn pass_fixed(w: usize, tokens: usize, n: usize, s: &[u8], at: usize) -> Passed
+    requires { ⌜ (0 < w) × (w < 2 ^ 40) × (tokens ≤ w) ⌝ }
+    requires { ⌜ DataAt (now s) at ⌝ }
+    ensures { λ r. ⌜ PassesEither w tokens (now (s .entry)) n at r ⌝ }
+{
+    let count = fitting(n, w, s.len() - at);
+    many(count, count * w, tokens)
+}
+
+// How many of the first of n values are passed, each of `before` bytes, a string and `after` bytes, with `tokens` tokens in all: those
+// that fit.
+fn pass_around(
+    before: usize,
+    after: usize,
+    tokens: usize,
+    n: usize,
+    s: &[u8],
+    at: usize,
+    o: Order,
+) -> Passed
+    requires { ⌜ tokens ≤ before + 4 + after ⌝ }
+    requires { ⌜ DataAt (now s) at ⌝ }
+    ensures { λ r. ⌜ PassesAround (orderOf o) before after tokens (now (s .entry)) n at r ⌝ }
+{
+    let mut next = Cursor { at };
+    let mut count = 0;
+    while count < n {
+        let r = across(before, after, s, next, o);
+        let Skip::To(end) = r else {
+            return many(count, next.at - at, tokens);
+        };
+        next = end;
+        count += 1;
+    }
+    many(count, next.at - at, tokens)
+}
+
+// How many of the first of n elements of the type at p are passed in one step: scalars up to one that is refused, and others by their
+// extent.
+fn pass(d: &[u8], p: usize, n: usize, s: &[u8], at: usize, o: Order, left: usize) -> Passed
+    requires { ⌜ TypeStands (now d) p left ⌝ }
+    requires { ⌜ DataAt (now s) at ⌝ }
+    ensures { λ r. ⌜ Passes (orderOf o) (typeAt (now (d .entry)) p) (now (s .entry)) n at r ⌝ }
+{
+    let scalar = width(code_at(d, p));
+    if scalar != 0 {
+        return pass_scalars(d, p, scalar, n, s, at, o);
+    }
+    let extent = extent_of(d, p, left);
+    match extent {
+        Extent::Varies => none_passed(),
+        Extent::Fixed(w, tokens, judged) => {
+            let most = keeping(d, p, extent, judged, n, s, at, o, left);
+            pass_fixed(w, tokens, most, s, at)
+        }
+        Extent::Around(before, after, tokens, judged) => {
+            let most = keeping(d, p, extent, judged, n, s, at, o, left);
+            pass_around(before, after, tokens, most, s, at, o)
+        }
+    }
+}
+
+// The front of the array whose elements are of the type at p.
+pub fn array_front(
+    d: &[u8],
+    p: usize,
+    dims: usize,
+    s: &[u8],
+    from: Cursor,
+    o: Order,
+    left: usize,
+) -> Front
+    requires { ⌜ TypeStands (now d) p left ⌝ }
+    requires { ⌜ (1 ≤ dims) × (dims ≤ dimensionLimit) ⌝ }
+    requires { ⌜ DataAt (now s) (from .at) ⌝ }
+    ensures { λ r. ⌜ FrontMet (orderOf o) dims (typeAt (now (d .entry)) p) (now (s .entry)) (from .at) r ⌝ }
+{
+    let sizes = size_words(s, from, dims, o);
+    match sizes {
+        Sizes::Refused(number, place) => Front::Over(Progress::Refused(number, place)),
+        Sizes::Count(n, elements) => {
+            let start = elements.at;
+            let passed = pass(d, p, n, s, start, o, left);
+            let next = Cursor {
+                at: start + passed.bytes,
+            };
+            if passed.count == n {
+                return Front::Over(Progress::Walked(next, 1 + passed.tokens));
+            }
+            Front::Rest(n - passed.count, next, 1 + passed.tokens)
+        }
+    }
+}

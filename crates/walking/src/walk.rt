@@ -1,0 +1,143 @@
+// The walk of data under a type. It runs on the accepted descriptor's own bytes, calls itself on what stands inside a type with less
+// of the depth left, and counts tokens.
+use super::arrays::Front;
+use super::arrays::array_front;
+use descriptor::codes::Kind;
+use descriptor::codes::kind_of;
+use descriptor::header::code_at;
+use descriptor::header::size_at;
+use descriptor::inside::inside_of;
+use descriptor::width::width;
+use flattened::cursor::Cursor;
+use flattened::order::Order;
+use flattened::progress::Progress;
+use flattened::scalar::scalar;
+use flattened::texts::texts;
+ghost use mathlib.Core.Path.{_≡_};
+ghost use Prim.Native.Nat.{_+_, _^_, _≤_, _<_};
+ghost use Rattle.descriptor.specs.Limits.{dimensionLimit};
+ghost use Rattle.descriptor.specs.Header.{codeIn};
+ghost use Rattle.descriptor.specs.Width.{widthOf};
+ghost use Rattle.flattened.specs.Walk.{repeat, walk, walkAll};
+ghost use Rattle.flattened.specs.inner.Order.{orderOf};
+ghost use Rattle.flattened.specs.inner.Progress.{progress, plus, tokensOf};
+ghost use Rattle.flattened.specs.inner.Types.{typeAt, typesAt, TypeStands, RowStands, DataAt};
+ghost use Rattle.flattened.specs.inner.Arrays.{elementsAt};
+
+// The progress r after `tokens` tokens.
+fn after(tokens: usize, r: Progress) -> Progress
+    requires { ⌜ tokens + tokensOf r < 2 ^ 64 ⌝ }
+    ensures { λ x. ⌜ x ≡ plus tokens r ⌝ }
+{
+    match r {
+        Progress::Walked(next, count) => Progress::Walked(next, tokens + count),
+        Progress::Refused(number, place) => Progress::Refused(number, place),
+    }
+}
+
+// The array of `dims` dimensions whose elements are of the type at p.
+fn array(d: &[u8], p: usize, dims: usize, s: &[u8], from: Cursor, o: Order, left: usize) -> Progress
+    requires { ⌜ TypeStands (now d) p left ⌝ }
+    requires { ⌜ (1 ≤ dims) × (dims ≤ dimensionLimit) ⌝ }
+    requires { ⌜ DataAt (now s) (from .at) ⌝ }
+    ensures { λ r. ⌜ r ≡ progress (elementsAt (orderOf o) dims (λ a. walk (orderOf o) (typeAt (now (d .entry)) p) (now (s .entry)) a) (now (s .entry)) (from .at)) ⌝ }
+{
+    let front = array_front(d, p, dims, s, from, o, left);
+    match front {
+        Front::Over(r) => r,
+        Front::Rest(n, next, tokens) => after(tokens, walk(d, p, n, s, next, o, left)),
+    }
+}
+
+// The value of the type at p, which has no fixed width of its own.
+fn value(d: &[u8], p: usize, s: &[u8], from: Cursor, o: Order, left: usize) -> Progress
+    requires { ⌜ TypeStands (now d) p left ⌝ }
+    requires { ⌜ widthOf (codeIn (now d) p) ≡ 0 ⌝ }
+    requires { ⌜ DataAt (now s) (from .at) ⌝ }
+    ensures { λ r. ⌜ r ≡ progress (walk (orderOf o) (typeAt (now (d .entry)) p) (now (s .entry)) (from .at)) ⌝ }
+{
+    let k = kind_of(code_at(d, p));
+    if let Kind::Text = k {
+        return texts(s, 1, from, o);
+    }
+    let inside = inside_of(d, p);
+    if let Kind::Array = k {
+        return array(d, inside.at, inside.count, s, from, o, left - 1);
+    }
+    row(d, inside.at, inside.children, s, from, o, left - 1)
+}
+
+// The values of the k types that stand in a row from `start` on.
+fn row(d: &[u8], start: usize, k: usize, s: &[u8], from: Cursor, o: Order, left: usize) -> Progress
+    requires { ⌜ RowStands (now d) k start left ⌝ }
+    requires { ⌜ DataAt (now s) (from .at) ⌝ }
+    ensures { λ r. ⌜ r ≡ progress (walkAll (orderOf o) (typesAt (now (d .entry)) k start) (now (s .entry)) (from .at)) ⌝ }
+{
+    let mut p = start;
+    let mut next = from;
+    let mut tokens = 0;
+    let mut i = 0;
+    while i < k {
+        let w = width(code_at(d, p));
+        let r = if w != 0 {
+            scalar(d, p, w, s, next, o)
+        } else {
+            value(d, p, s, next, o, left)
+        };
+        let Progress::Walked(end, count) = r else {
+            return r;
+        };
+        next = end;
+        tokens += count;
+        p += size_at(d, p);
+        i += 1;
+    }
+    Progress::Walked(next, tokens)
+}
+
+// n times the values of the k types that stand in a row from `start` on.
+fn rows(
+    d: &[u8],
+    start: usize,
+    k: usize,
+    n: usize,
+    s: &[u8],
+    from: Cursor,
+    o: Order,
+    left: usize,
+) -> Progress
+    requires { ⌜ RowStands (now d) k start left ⌝ }
+    requires { ⌜ DataAt (now s) (from .at) ⌝ }
+    ensures { λ r. ⌜ r ≡ progress (repeat (λ a. walkAll (orderOf o) (typesAt (now (d .entry)) k start) (now (s .entry)) a) n (from .at)) ⌝ }
+{
+    let mut next = from;
+    let mut tokens = 0;
+    let mut i = 0;
+    while i < n {
+        let r = row(d, start, k, s, next, o, left);
+        let Progress::Walked(end, count) = r else {
+            return r;
+        };
+        next = end;
+        tokens += count;
+        i += 1;
+    }
+    Progress::Walked(next, tokens)
+}
+
+// n values of the type at p, one after another.
+pub fn walk(d: &[u8], p: usize, n: usize, s: &[u8], from: Cursor, o: Order, left: usize) -> Progress
+    requires { ⌜ TypeStands (now d) p left ⌝ }
+    requires { ⌜ DataAt (now s) (from .at) ⌝ }
+    ensures { λ r. ⌜ r ≡ progress (repeat (λ a. walk (orderOf o) (typeAt (now (d .entry)) p) (now (s .entry)) a) n (from .at)) ⌝ }
+{
+    let k = kind_of(code_at(d, p));
+    if let Kind::Text = k {
+        return texts(s, n, from, o);
+    }
+    if let Kind::Cluster = k {
+        let inside = inside_of(d, p);
+        return rows(d, inside.at, inside.children, n, s, from, o, left - 1);
+    }
+    rows(d, p, 1, n, s, from, o, left)
+}
