@@ -21,6 +21,8 @@ HOST = --release --offline --locked --manifest-path host/Cargo.toml --target-dir
 # The crates that the library is made of, each behind those that it uses.
 CRATES := $(shell awk '$$1 == "kerbcanopy:" { for (i = NF; i > 1; i--) print $$i }' crates.txt)
 PROVED := crates.txt $(shell find crates -name '*.rt' -o -name '*.antt')
+# What the command is built from; a test of it changes nothing.
+COMMANDED := host/Cargo.toml host/Cargo.lock $(shell find host/binding host/cli -type f -not -path '*/tests/*')
 
 PLACE = DESTDIR='$(DESTDIR)' version='$(VERSION)' prefix='$(PREFIX)' bindir='$(bindir)' includedir='$(includedir)' \
     libdir='$(libdir)' mandir='$(mandir)' pkgconfigdir='$(pkgconfigdir)' pythondir='$(pythondir)' \
@@ -62,8 +64,7 @@ clean: ## takes away all that was built
 
 library: $(ARCHIVE)
 
-command: library
-	@cargo build $(HOST) --quiet --package cli
+command: $(COMMAND)
 
 # rt proves again only what has changed, and builds only what is proved. What it says in full is in target/library.log.
 $(ARCHIVE): $(PROVED)
@@ -76,6 +77,11 @@ $(ARCHIVE): $(PROVED)
 	@echo "proving kerbcanopy, and building the library" >&2
 	@rt staticlib kerbcanopy >> target/library.log 2>&1 || { cat target/library.log >&2; exit 1; }
 	@touch $(ARCHIVE)
+
+# Built only where something is newer, so that a root without cargo can install what somebody else built.
+$(COMMAND): $(ARCHIVE) $(COMMANDED)
+	@cargo build $(HOST) --quiet --package cli
+	@touch $(COMMAND)
 
 $(SHARED): $(ARCHIVE) host/install/exports.map
 	@mkdir -p $(@D)
