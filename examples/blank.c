@@ -10,7 +10,7 @@
 static const uint8_t reader[] = {0x00, 0x0E, 0x00, 0x50, 0x00, 0x01, 0x00, 0x08, 0x00, 0x07, 2, 'i', 'd', 0};
 
 /* Room for one byte more than is accepted, so that a longer file is refused rather than cut. */
-static uint8_t rig[4096 + 1], data[65536 + 1];
+static uint8_t rig[KC_MAX_DESCRIPTOR + 1], data[KC_MAX_DATA + 1];
 
 /* Reads a file's bytes, and says whether that went well. */
 static int load(const char *name, uint8_t *bytes, size_t room, size_t *length) {
@@ -39,7 +39,7 @@ int main(int count, char **arguments) {
         return 2;
     }
     kc_answer answer = kc_read_record(rig, rig_length, reader, sizeof reader, data, data_length, id, sizeof id);
-    if (answer.number != 0) {
+    if (answer.number != KC_ACCEPTED) {
         printf("refused with %u (input %u, place %u)\n", answer.number, answer.input, answer.place);
         return 1;
     }
