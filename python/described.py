@@ -120,7 +120,11 @@ def pieces(tree: Type, value: Any) -> int:
 def parts(tree: Type, value: Any, path: Tuple[int, ...] = ()) -> Iterator[Tuple[Tuple[int, ...], Type, Any]]:
     """Every part of a value with its path and its type."""
     yield path, tree, value
-    inside = zip(tree.inside, value) if tree.code == CLUSTER else ((tree.inside[0], one) for one in value[1]) if tree.code == ARRAY else ()
+    inside: List[Tuple[Type, Any]] = []
+    if tree.code == CLUSTER:
+        inside = list(zip(tree.inside, value))
+    elif tree.code == ARRAY:
+        inside = [(tree.inside[0], one) for one in value[1]]
     for step, (below, one) in enumerate(inside):
         yield from parts(below, one, (*path, step))
 
@@ -156,7 +160,9 @@ def walked(tree: Type, data: bytes, start: int = 0) -> int:
     piece = data[start:start + width]
     if len(piece) < width:
         raise Bad
-    if tree.code in ENUMERATIONS and int.from_bytes(piece, "big") >= len(tree.items) or tree.code == BOOLEAN and piece[0] > 1:
+    if tree.code in ENUMERATIONS and int.from_bytes(piece, "big") >= len(tree.items):
+        raise Bad
+    if tree.code == BOOLEAN and piece[0] > 1:
         raise Bad
     return start + width
 
