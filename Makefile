@@ -1,4 +1,19 @@
 PREFIX ?= /usr/local
+bindir = $(PREFIX)/bin
+includedir = $(PREFIX)/include
+libdir = $(PREFIX)/lib
+datadir = $(PREFIX)/share
+mandir = $(datadir)/man
+pkgconfigdir = $(libdir)/pkgconfig
+pythondir = $(libdir)/kerbcanopy
+bashcompletiondir = $(datadir)/bash-completion/completions
+zshcompletiondir = $(datadir)/zsh/site-functions
+
+# The version is that of host/Cargo.toml, and host/install/run holds the header's against it; its first number is the shared library's.
+VERSION := $(shell sed -n 's/^version = "\(.*\)"/\1/p' host/Cargo.toml)
+SONAME := libkerbcanopy.so.$(firstword $(subst ., ,$(VERSION)))
+SHARED := target/shared/libkerbcanopy.so.$(VERSION)
+
 MINUTES ?= 10
 ARCHIVE = target/staticlib/libkerbcanopy.a
 COMMAND = host/target/release/kerbcanopy
@@ -6,8 +21,14 @@ HOST = --release --offline --locked --manifest-path host/Cargo.toml --target-dir
 # The crates that the library is made of, each behind those that it uses.
 CRATES := $(shell awk '$$1 == "kerbcanopy:" { for (i = NF; i > 1; i--) print $$i }' crates.txt)
 PROVED := crates.txt $(shell find crates -name '*.rt' -o -name '*.antt')
+# What the command is built from; a test of it changes nothing.
+COMMANDED := host/Cargo.toml host/Cargo.lock $(shell find host/binding host/cli -type f -not -path '*/tests/*')
 
-.PHONY: help run test bench fuzz memcheck install clean library command
+PLACE = DESTDIR='$(DESTDIR)' version='$(VERSION)' prefix='$(PREFIX)' bindir='$(bindir)' includedir='$(includedir)' \
+    libdir='$(libdir)' mandir='$(mandir)' pkgconfigdir='$(pkgconfigdir)' pythondir='$(pythondir)' \
+    bashcompletiondir='$(bashcompletiondir)' zshcompletiondir='$(zshcompletiondir)' host/install/place
+
+.PHONY: help run test bench fuzz memcheck shared install uninstall clean library command
 
 help: ## this list
 	@awk -F ':.*## ' '/^[a-z]+:.*## / { printf "make %-9s %s\n", $$1, $$2 }' Makefile
@@ -29,19 +50,21 @@ memcheck: library ## the differential test under valgrind, every buffer exactly 
 	cargo build $(HOST) --package differential
 	valgrind --quiet --error-exitcode=9 host/target/release/differential --exact
 
-install: command ## the library, its header and the command, below PREFIX (/usr/local)
-	install -d "$(DESTDIR)$(PREFIX)/lib" "$(DESTDIR)$(PREFIX)/include" "$(DESTDIR)$(PREFIX)/bin"
-	install -m 644 $(ARCHIVE) "$(DESTDIR)$(PREFIX)/lib"
-	install -m 644 include/kerbcanopy.h "$(DESTDIR)$(PREFIX)/include"
-	install -m 755 $(COMMAND) "$(DESTDIR)$(PREFIX)/bin"
+shared: $(SHARED) ## the shared library, target/shared/libkerbcanopy.so
+	@:
+
+install: command shared ## libraries, header, command, man page, completion and Python module, below PREFIX (/usr/local)
+	@$(PLACE) put
+
+uninstall: ## takes away what install put below the same PREFIX
+	@$(PLACE) take
 
 clean: ## takes away all that was built
 	rm -rf target host/target
 
 library: $(ARCHIVE)
 
-command: library
-	@cargo build $(HOST) --quiet --package cli
+command: $(COMMAND)
 
 # rt proves again only what has changed, and builds only what is proved. What it says in full is in target/library.log.
 $(ARCHIVE): $(PROVED)
@@ -54,3 +77,15 @@ $(ARCHIVE): $(PROVED)
 	@echo "proving kerbcanopy, and building the library" >&2
 	@rt staticlib kerbcanopy >> target/library.log 2>&1 || { cat target/library.log >&2; exit 1; }
 	@touch $(ARCHIVE)
+
+# Built only where something is newer, so that a root without cargo can install what somebody else built.
+$(COMMAND): $(ARCHIVE) $(COMMANDED)
+	@cargo build $(HOST) --quiet --package cli
+	@touch $(COMMAND)
+
+$(SHARED): $(ARCHIVE) host/install/exports.map
+	@mkdir -p $(@D)
+	@gcc -shared -Wl,-soname,$(SONAME) -Wl,--version-script=host/install/exports.map -Wl,--no-undefined -Wl,-z,now \
+	    -Wl,--whole-archive $(ARCHIVE) -Wl,--no-whole-archive -o $@
+	@ln -sfn $(@F) $(@D)/$(SONAME)
+	@ln -sfn $(SONAME) $(@D)/libkerbcanopy.so

@@ -99,7 +99,7 @@ impl Lines<'_> {
 
     fn refused(&self) -> String {
         let number = self.section.answer.number;
-        let meaning = crate::refusal::meaning(number);
+        let meaning = kerbcanopy::meaning(number);
         self.painted(&format!("refused with {number}: {meaning}"), "1;31")
     }
 

@@ -1,0 +1,135 @@
+"""Holds what is said about the command in several places against the command itself: every command and every option that its help
+names stands in the man page and in the completions, and nothing else does; every refusal is told in the same words by the command, the
+Python module and the man page. Prints a line `ok ..` or `not ok ..` for each thing.
+
+    words.py COMMAND MAN-PAGE BASH-COMPLETION ZSH-COMPLETION
+
+The folders of the Python module and of its tests stand in PYTHONPATH.
+"""
+
+import json
+import pathlib
+import re
+import subprocess
+import sys
+import tempfile
+
+import kerbcanopy
+import test_kerbcanopy as cases
+
+COMMAND, MAN, BASH, ZSH = sys.argv[1:]
+COMMON = {"--hex", "--json", "-h", "--help", "-V", "--version", "--"}
+
+
+def said(*words, status=0):
+    """What a program prints, which ends with this status."""
+    run = subprocess.run(words, capture_output=True, text=True)
+    if run.returncode != status:
+        raise SystemExit(f"{words}: status {run.returncode}: {run.stderr}")
+    return run.stdout
+
+
+def agree(what, seen, expected):
+    if seen == expected:
+        print(f"ok {what}")
+    else:
+        print(f"not ok {what}\n  seen:     {seen}\n  expected: {expected}")
+
+
+def usages():
+    """Each command of the help with its usage, less the options that every command takes."""
+    names = re.findall(r"^  ([a-z]+) +[a-z]", said(COMMAND, "--help"), re.M)
+    lines = {name: said(COMMAND, name, "--help").splitlines()[0] for name in names}
+    return {name: re.fullmatch(r"usage: kerbcanopy (.*) \[--hex\] \[--json\]", line)[1] for name, line in lines.items()}
+
+
+def options(usage):
+    """The options of a usage, each with the word for its value if it takes one."""
+    return set(re.findall(r"\[(-[^\]]+)\]", usage))
+
+
+def files(usage):
+    """How many files a usage takes."""
+    return len(re.findall(r"\b[A-Z]+\b(?!\.\.)", re.sub(r"\[-[^\]]+\]", "", usage)))
+
+
+def section(page, name):
+    return re.search(rf"^{name}\n(.*?)(?=^\S|\Z)", page, re.M | re.S)[1]
+
+
+def man_page(all_usages):
+    page = said("groff", "-man", "-Tascii", "-P-cbou", "-rLL=160n", MAN)
+    agree("man page: the commands", sorted(re.findall(r"^ {7}(\S.*)$", section(page, "COMMANDS"), re.M)), sorted(all_usages.values()))
+    heads = re.findall(r"^ {7}(-.*?)(?: {2,}.*| [A-Z][a-z].*)?$", section(page, "OPTIONS"), re.M)
+    common = re.findall(r"^  (-.*?)  ", said(COMMAND, "--help"), re.M)
+    agree("help: the options of every command", {one for words in common for one in words.split(", ")}, COMMON)
+    agree("man page: the options", sorted(heads), sorted({*common, *(one for usage in all_usages.values() for one in options(usage))}))
+    refusals = " ".join(section(page, "REFUSALS").split())
+    found = re.findall(r"(?<=\. )(\d+) ([A-Z].*?)(?=[.;] |\.$)", refusals)
+    told = {int(number): words[0].lower() + words[1:] for number, words in found}
+    expected = {number: words[0].lower() + words[1:].split(";")[0] for number, words in kerbcanopy.MEANINGS.items()}
+    agree("man page: the refusals", told, expected)
+
+
+BASH_TRY = 'source "$1"; shift; COMP_WORDS=("$@"); COMP_CWORD=$(($# - 1)); _kerbcanopy; printf "%s\\n" "${COMPREPLY[@]}"'
+ZSH_TRY = (
+    'compadd() { shift; print -rl -- "$@" }; _files() { print -rl -- * }; from=$1; shift; words=("$@"); CURRENT=$#; '
+    "try() { source $from }; try; true"
+)
+
+
+def completed(shell, *words):
+    """What a shell offers for the last word."""
+    start = ("bash", "-c", BASH_TRY, "bash", BASH) if shell == "bash" else ("zsh", "-fc", ZSH_TRY, "zsh", ZSH)
+    return set(said(*start, "kerbcanopy", *words).split())
+
+
+def completion(shell, all_usages):
+    here = {path.name for path in pathlib.Path(".").iterdir() if not path.name.startswith(".")}
+
+    def listed(*words):
+        return {name for name in completed(shell, *words) if not name.startswith(".")}
+
+    agree(f"{shell}: the commands", completed(shell, ""), set(all_usages))
+    for name, usage in all_usages.items():
+        expected = {option.split()[0] for option in options(usage)} | COMMON
+        agree(f"{shell}: the options of {name}", completed(shell, name, "-"), expected)
+        offered = [listed(name, *["x"] * count, "") for count in range(5)]
+        agree(f"{shell}: the files of {name}", offered, [here if count < files(usage) else set() for count in range(5)])
+    agree(f"{shell}: a file behind -o", listed("normal", "x", "-o", ""), here)
+    agree(f"{shell}: a number behind --room", completed(shell, "normal", "--room", ""), set())
+    agree(f"{shell}: a file behind --", listed("check", "--", ""), here)
+    agree(f"{shell}: options first", completed(shell, "-o", "x", "--hex", "read", "-"), {"-o", "--room"} | COMMON)
+
+
+def refused():
+    """For each number: a use of the command that is refused with it."""
+    rig, data = cases.RIG, cases.DATA
+    uses = {number: ("check", descriptor) for number, (descriptor, _) in cases.DESCRIPTORS.items()}
+    uses.update({number: ("data", descriptor, sent) for number, (descriptor, sent, _) in cases.DATAS.items()})
+    uses.update({number: ("read", *lent) for number, (*lent, _, _) in cases.RECORDS.items()})
+    uses.update({30: ("view", rig, data, "7"), 31: ("value", rig, data), 50: ("normal", rig, "--room=0")})
+    return uses
+
+
+def meanings():
+    seen = {}
+    with tempfile.TemporaryDirectory() as folder:
+        for number, (command, *lent) in refused().items():
+            words = []
+            for index, one in enumerate(lent):
+                if isinstance(one, bytes):
+                    path = pathlib.Path(folder) / str(index)
+                    path.write_bytes(one)
+                    one = str(path)
+                words.append(one)
+            answer = json.loads(said(COMMAND, command, *words, "--json", status=1))
+            seen[answer["number"]] = answer["meaning"]
+    agree("the command and the Python module: the refusals", seen, kerbcanopy.MEANINGS)
+
+
+USAGES = usages()
+man_page(USAGES)
+for SHELL in ("bash", "zsh"):
+    completion(SHELL, USAGES)
+meanings()

@@ -1,0 +1,250 @@
+"""Every question of the module, every refusal, and the bytes around outputs. From the repository's root, after `make shared`:
+
+    /usr/bin/python3 -m unittest discover -s python
+
+runs this and test_properties.py, which needs Debian's python3-hypothesis (apt-get install python3-hypothesis).
+"""
+
+from __future__ import annotations
+
+import math
+import pickle
+import unittest
+from typing import Any, Callable, Dict, List, Tuple
+
+import kerbcanopy
+from kerbcanopy import Kind, Refusal, Row, Value
+
+
+def raw(text: str) -> bytes:
+    return bytes.fromhex(text)
+
+
+RIG = raw("0014 0050 0002 0006 0002 0174 0008 0007 0269 6400")
+READER = raw("000E 0050 0001 0008 0007 0269 6400")
+DATA = raw("0019 0000 0009")
+WORD, FLAG, TEXT = raw("0004 0003"), raw("0004 0021"), raw("0008 0030 FFFF FFFF")
+ARRAY = raw("000E 0040 0001 FFFF FFFF 0004 000A")
+ITEMS = raw("0016 0015 0003 0261 6D02 666D 0966 6D20 7374 6572 656F")
+
+
+def cluster(*members: bytes) -> bytes:
+    inside = b"".join(members)
+    return (6 + len(inside)).to_bytes(2, "big") + raw("0050") + len(members).to_bytes(2, "big") + inside
+
+
+def nested(levels: int) -> bytes:
+    descriptor = WORD
+    for _ in range(levels):
+        descriptor = cluster(descriptor)
+    return descriptor
+
+
+#: For each number of a refusal of a descriptor: bytes that earn it, and the place.
+DESCRIPTORS: Dict[int, Tuple[bytes, int]] = {
+    1: (bytes(4_097), 0),
+    2: (b"", 0),
+    3: (raw("8004 0003"), 0),
+    4: (raw("0005 0003 00"), 0),
+    5: (raw("0004 0032"), 0),
+    6: (nested(8), 48),
+    7: (cluster(*[WORD] * 256), 6 + 255 * 4),
+    8: (raw("0004 0030"), 0),
+    9: (raw("0006 0050 0000"), 0),
+    10: (raw("0018 0040 0001 FFFF FFFF") + ARRAY, 10),
+    11: (raw("0006 0003 0261"), 0),
+    12: (WORD + b"\0", 4),
+}
+
+#: The same for data, with the descriptor that it stands under.
+DATAS: Dict[int, Tuple[bytes, bytes, int]] = {
+    20: (TEXT, bytes(65_537), 0),
+    21: (RIG, DATA[:5], 2),
+    22: (ARRAY, raw("8000 0000"), 0),
+    23: (ITEMS, b"\3", 0),
+    24: (cluster(WORD, FLAG), raw("0000 0001 02"), 4),
+    25: (WORD, bytes(5), 4),
+}
+
+#: The same for records: writer, reader, input and place.
+RECORDS: Dict[int, Tuple[bytes, bytes, bytes, int, int]] = {
+    40: (RIG, cluster(READER[6:], READER[6:]), DATA, 2, 1),
+    41: (WORD, READER, bytes(4), 1, 0),
+    42: (RIG, raw("000E 0050 0001 0008 0007 026E 6F00"), DATA, 2, 0),
+    43: (cluster(READER[6:], READER[6:]), READER, bytes(8), 2, 0),
+    44: (RIG, raw("000E 0050 0001 0008 0003 0269 6400"), DATA, 2, 0),
+}
+
+
+class Case(unittest.TestCase):
+    def refused(self, expected: Tuple[int, int, int], call: Callable[..., Any], *arguments: Any) -> Refusal:
+        with self.assertRaises(Refusal) as caught:
+            call(*arguments)
+        refusal = caught.exception
+        self.assertEqual((refusal.number, refusal.input, refusal.place), expected)
+        return refusal
+
+
+class Questions(Case):
+    def test_check_descriptor(self) -> None:
+        rows = kerbcanopy.check_descriptor(raw("000E 0050 0002 0004 0002 0004 0007"))
+        self.assertEqual(rows, [Row(0x50, 0, 14, 1, 2, 0, 0), Row(0x02, 6, 4, 2, 0, 0, 0), Row(0x07, 10, 4, 2, 0, 0, 0)])
+        self.assertEqual([row.name(RIG) for row in kerbcanopy.check_descriptor(RIG)], [None, b"t", b"id"])
+        empty = raw("0006 0003 0000")
+        self.assertEqual(kerbcanopy.check_descriptor(empty)[0].name(empty), b"")
+        self.assertEqual(len(kerbcanopy.check_descriptor(cluster(*[WORD] * 255))), 256)
+
+    def test_compare(self) -> None:
+        self.assertIs(kerbcanopy.compare(WORD, raw("0004 4003")), True)
+        self.assertIs(kerbcanopy.compare(WORD, raw("0004 0007")), False)
+
+    def test_normal_form(self) -> None:
+        self.assertEqual(kerbcanopy.normal_form(raw("0004 4003")), WORD)
+
+    def test_check_data(self) -> None:
+        self.assertEqual(kerbcanopy.check_data(RIG, DATA), 2)
+        self.assertEqual(kerbcanopy.check_data(raw("0012 0040 0002 FFFF FFFF FFFF FFFF 0004 000A"), raw("7FFF FFFF 0000 0000")), 1)
+
+    def test_view(self) -> None:
+        self.assertEqual(kerbcanopy.view(RIG, DATA, [1]), raw("0000 0009"))
+        self.assertEqual(kerbcanopy.view(RIG, DATA), DATA)
+        self.assertIs(kerbcanopy.view(RIG, DATA, [0]).obj, DATA)
+        self.assertEqual(kerbcanopy.view(ARRAY, raw("0000 0002") + bytes(8) + b"\1" * 8, (1,)), b"\1" * 8)
+
+    def test_read_value(self) -> None:
+        cases: List[Tuple[int, str, Value, Any]] = [
+            (0x01, "80", Value(Kind.SIGNED, (1 << 64) - 128), -128),
+            (0x04, "7FFFFFFFFFFFFFFF", Value(Kind.SIGNED, (1 << 63) - 1), (1 << 63) - 1),
+            (0x08, "FFFFFFFFFFFFFFFF", Value(Kind.UNSIGNED, (1 << 64) - 1), (1 << 64) - 1),
+            (0x09, "41A40000", Value(Kind.SINGLE, 0x41A40000), 20.5),
+            (0x0A, "C000000000000000", Value(Kind.DOUBLE, 0xC000000000000000), -2.0),
+            (0x21, "01", Value(Kind.FLAG, 1), True),
+            (0x21, "00", Value(Kind.FLAG, 0), False),
+        ]
+        for code, data, value, number in cases:
+            read = kerbcanopy.read_value(bytes([0, 4, 0, code]), raw(data))
+            self.assertEqual((read, read.value, type(read.value)), (value, number, type(number)))
+        self.assertEqual(kerbcanopy.read_value(ITEMS, b"\2").value, 2)
+
+    def test_the_bits_of_what_is_no_number_are_kept(self) -> None:
+        for code, data in ((0x09, "7F800001"), (0x0A, "FFF4000000000001")):
+            read = kerbcanopy.read_value(bytes([0, 4, 0, code]), raw(data))
+            self.assertEqual(read.bits, int(data, 16))
+            self.assertTrue(math.isnan(read.value))
+
+    def test_little_and_big(self) -> None:
+        self.assertEqual(kerbcanopy.to_little_endian(RIG, DATA), raw("1900 0900 0000"))
+        self.assertEqual(kerbcanopy.from_little_endian(RIG, raw("1900 0900 0000")), DATA)
+
+    def test_read_record(self) -> None:
+        self.assertEqual(kerbcanopy.read_record(RIG, READER, DATA), raw("0000 0009"))
+        self.assertEqual(kerbcanopy.read_record(RIG, RIG, DATA), DATA)
+
+    def test_whatever_has_bytes_can_be_lent(self) -> None:
+        for kind in (bytes, bytearray, memoryview):
+            self.assertEqual(kerbcanopy.read_record(kind(RIG), kind(READER), kind(DATA)), raw("0000 0009"))
+            self.assertEqual(kerbcanopy.view(kind(RIG), kind(DATA), [1]), raw("0000 0009"))
+        every_other = memoryview(bytes(one for byte in DATA for one in (byte, 0xFF)))[::2]
+        self.assertEqual(kerbcanopy.view(RIG, every_other), DATA)
+        for wrong in (5, "0004", [0, 4, 0, 3], None):
+            with self.assertRaises(TypeError):
+                kerbcanopy.check_descriptor(wrong)  # type: ignore[arg-type]
+
+
+class Refusals(Case):
+    def test_of_descriptors(self) -> None:
+        for number, (descriptor, place) in DESCRIPTORS.items():
+            first, second = (number, 1, place), (number, 2, place)
+            self.refused(first, kerbcanopy.check_descriptor, descriptor)
+            self.refused(first, kerbcanopy.normal_form, descriptor)
+            self.refused(first, kerbcanopy.compare, descriptor, b"")
+            self.refused(second, kerbcanopy.compare, WORD, descriptor)
+            self.refused(first, kerbcanopy.check_data, descriptor, b"")
+            self.refused(first, kerbcanopy.view, descriptor, b"", [0])
+            self.refused(first, kerbcanopy.read_value, descriptor, b"", [0])
+            self.refused(first, kerbcanopy.to_little_endian, descriptor, b"")
+            self.refused(first, kerbcanopy.from_little_endian, descriptor, b"")
+            self.refused(first, kerbcanopy.read_record, descriptor, b"", b"")
+            self.refused(second, kerbcanopy.read_record, RIG, descriptor, b"")
+
+    def test_of_data(self) -> None:
+        for number, (descriptor, data, place) in DATAS.items():
+            expected = (number, 3, place)
+            self.refused(expected, kerbcanopy.check_data, descriptor, data)
+            self.refused(expected, kerbcanopy.view, descriptor, data, [9])
+            self.refused(expected, kerbcanopy.read_value, descriptor, data, [9])
+            self.refused(expected, kerbcanopy.to_little_endian, descriptor, data)
+            self.refused(expected, kerbcanopy.read_record, descriptor, WORD, data)
+            turned = raw("0000 0080") if number == 22 else data
+            self.refused(expected, kerbcanopy.from_little_endian, descriptor, turned)
+
+    def test_of_paths(self) -> None:
+        for step in (2, 1 << 31, (1 << 32) - 1, 1 << 32, 1 << 70, -1, -(1 << 32)):
+            self.refused((30, 4, 0), kerbcanopy.view, RIG, DATA, [step])
+            self.refused((30, 4, 0), kerbcanopy.read_value, RIG, DATA, [step])
+        self.refused((30, 4, 1), kerbcanopy.view, RIG, DATA, [1, 0])
+        self.refused((30, 4, 1), kerbcanopy.view, RIG, DATA, [1] * 100_000)
+        self.refused((31, 4, 0), kerbcanopy.read_value, RIG, DATA)
+
+    def test_of_records(self) -> None:
+        for number, (writer, reader, data, input_, place) in RECORDS.items():
+            self.refused((number, input_, place), kerbcanopy.read_record, writer, reader, data)
+            self.refused((number, input_, place), kerbcanopy.read_record_into, writer, reader, data, bytearray())
+
+    def test_every_number_is_met_and_has_its_words(self) -> None:
+        self.assertEqual({*DESCRIPTORS, *DATAS, *RECORDS, 30, 31, 50}, set(kerbcanopy.MEANINGS))
+        self.assertEqual(len(set(kerbcanopy.MEANINGS.values())), 26)
+        refusal = self.refused((21, 3, 2), kerbcanopy.check_data, RIG, DATA[:5])
+        self.assertEqual(str(refusal), "refused with 21: the data ends inside this piece (input 3, the data; place 2)")
+        self.assertEqual(pickle.loads(pickle.dumps(refusal)).args, refusal.args)
+        self.assertIn("does not know", str(Refusal(99, 9, 0)))
+
+
+#: The entries that fill a buffer, what they are lent, and what they write.
+FILLED: List[Tuple[Callable[..., int], Tuple[bytes, ...], bytes]] = [
+    (kerbcanopy.normal_form_into, (raw("0004 4003"),), WORD),
+    (kerbcanopy.to_little_endian_into, (RIG, DATA), raw("1900 0900 0000")),
+    (kerbcanopy.from_little_endian_into, (RIG, raw("1900 0900 0000")), DATA),
+    (kerbcanopy.read_record_into, (RIG, READER, DATA), raw("0000 0009")),
+]
+
+
+class Outputs(Case):
+    def test_what_stands_around_is_kept(self) -> None:
+        for call, lent, expected in FILLED:
+            for more in (0, 1, 40):
+                around = bytearray(b"\xA5" * (16 + len(expected) + more + 16))
+                room = memoryview(around)[16:16 + len(expected) + more]
+                self.assertEqual(call(*lent, room), len(expected))
+                self.assertEqual(around, b"\xA5" * 16 + expected + b"\xA5" * (more + 16))
+
+    def test_a_refusal_writes_nothing(self) -> None:
+        for call, lent, expected in FILLED:
+            for length in range(len(expected)):
+                around = bytearray(b"\xA5" * (length + 32))
+                self.refused((50, 4, len(expected)), call, *lent, memoryview(around)[16:16 + length])
+                self.assertEqual(around, b"\xA5" * (length + 32))
+            around = bytearray(b"\xA5" * 32)
+            self.refused((2, 1, 0), call, b"", *lent[1:], around)
+            self.assertEqual(around, b"\xA5" * 32)
+
+    def test_a_buffer_is_free_again_after_a_refusal(self) -> None:
+        out = bytearray()
+        try:
+            kerbcanopy.normal_form_into(WORD, out)
+        except Refusal as refusal:
+            out.extend(bytes(refusal.place))
+        self.assertEqual((kerbcanopy.normal_form_into(WORD, out), out), (4, WORD))
+
+    def test_an_input_may_be_the_output(self) -> None:
+        both = bytearray(raw("0004 4003"))
+        self.assertEqual((kerbcanopy.normal_form_into(both, both), both), (4, WORD))
+
+    def test_what_can_t_be_written_is_no_output(self) -> None:
+        for wrong in (bytes(8), memoryview(bytes(8)), memoryview(bytearray(8))[::2], "text", None):
+            with self.assertRaises((TypeError, BufferError)):
+                kerbcanopy.normal_form_into(WORD, wrong)  # type: ignore[arg-type]
+
+
+if __name__ == "__main__":
+    unittest.main()
