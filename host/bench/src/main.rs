@@ -1,12 +1,14 @@
-//! Times both implementations on the same inputs in one run, and prints the times
-//! side by side.
+//! Times both implementations on the same inputs in one run, prints the times
+//! side by side, and draws them.
 #![forbid(unsafe_code)]
 
 mod about;
 mod asked;
 mod case;
 mod inputs;
+mod numerals;
 mod options;
+mod plot;
 mod questions;
 mod table;
 mod timing;
@@ -26,16 +28,27 @@ fn main() -> ExitCode {
             return ExitCode::FAILURE;
         }
     };
-    let mut rows = about::rows();
-    rows.retain(|row| options.wants(row));
-    match options.profile {
-        Some((side, calls)) => profile(rows, side, calls),
-        None => bench(&options, rows),
+    let rows = options.chosen(about::rows());
+    if rows.is_empty() {
+        eprintln!("no row has {} in its name", options.row);
+        return ExitCode::FAILURE;
     }
-    ExitCode::SUCCESS
+    if let Some((side, calls)) = options.profile {
+        profile(rows, side, calls);
+        return ExitCode::SUCCESS;
+    }
+    match bench(&options, rows) {
+        Ok(()) => ExitCode::SUCCESS,
+        Err(message) => {
+            eprintln!("{message}");
+            ExitCode::FAILURE
+        }
+    }
 }
 
-/// Puts each row's question so many times to one side.
+/// Puts each row's question so many times to one side. It stays a call of its own,
+/// so that a profiler can be told to count nothing else.
+#[inline(never)]
 fn profile(rows: Vec<Case>, side: Side, calls: u32) {
     for row in rows {
         let mut call = match side {
@@ -47,7 +60,7 @@ fn profile(rows: Vec<Case>, side: Side, calls: u32) {
 }
 
 /// Times the rows, and the curves if all rows are wanted.
-fn bench(options: &Options, mut rows: Vec<Case>) {
+fn bench(options: &Options, mut rows: Vec<Case>) -> Result<(), String> {
     let effort = match options.quick {
         true => Effort::QUICK,
         false => Effort::FULL,
@@ -65,4 +78,9 @@ fn bench(options: &Options, mut rows: Vec<Case>) {
     table::print_rows(&rows, times);
     table::print_growth(&curves, growth);
     table::print_above(&rows, times);
+    let Some(file) = &options.plot else {
+        return Ok(());
+    };
+    let picture = plot::draw(&rows, times, &curves, growth);
+    std::fs::write(file, picture).map_err(|error| format!("{file}: {error}"))
 }

@@ -2,9 +2,11 @@
 
 use crate::case::Case;
 
-pub const USAGE: &str = "usage: bench [--quick] [--row TEXT]
+pub const USAGE: &str = "usage: bench [--quick] [--row TEXT] [--plot FILE]
        bench --row TEXT --calls N --side kerbcanopy|reference
-  --row TEXT     only rows with this text in their name
+  --row TEXT     only the row \"entry: row\" of this name, or else all rows
+                 with this text in their name
+  --plot FILE    also draws the result, as SVG
   --quick        asks everything once, so that no time says anything
   --calls N      puts each row's question N times to the side named, for a
                  profiler, and times nothing";
@@ -13,6 +15,7 @@ pub const USAGE: &str = "usage: bench [--quick] [--row TEXT]
 pub struct Options {
     pub quick: bool,
     pub row: String,
+    pub plot: Option<String>,
     pub profile: Option<(Side, u32)>,
 }
 
@@ -32,6 +35,7 @@ impl Options {
             match argument.as_str() {
                 "--quick" => options.quick = true,
                 "--row" => options.row = value()?,
+                "--plot" => options.plot = Some(value()?),
                 "--side" => side = Some(side_named(&value()?)?),
                 "--calls" => {
                     let parsed = value()?.parse();
@@ -48,8 +52,13 @@ impl Options {
         Ok(options)
     }
 
-    pub fn wants(&self, case: &Case) -> bool {
-        case.name().contains(&self.row)
+    /// The rows wanted: the one of this very name, or all that have the text.
+    pub fn chosen(&self, mut rows: Vec<Case>) -> Vec<Case> {
+        if let Some(place) = rows.iter().position(|row| row.name() == self.row) {
+            return vec![rows.swap_remove(place)];
+        }
+        rows.retain(|row| row.name().contains(&self.row));
+        rows
     }
 }
 

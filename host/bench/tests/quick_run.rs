@@ -91,11 +91,46 @@ fn rows_can_be_chosen_and_put_to_one_side() {
     }
 }
 
+/// How many points the curves have: four in each line below their heads.
+fn points(text: &str) -> usize {
+    let growth = text
+        .lines()
+        .skip_while(|line| !line.starts_with("How cost grows"));
+    let growth = growth.take_while(|line| !line.starts_with("Above"));
+    let curves = growth.filter(|line| ENTRIES.iter().any(|entry| line.starts_with(entry)));
+    4 * curves.count()
+}
+
+#[test]
+fn every_row_and_every_point_is_drawn() {
+    let file = format!("{}/all.svg", env!("CARGO_TARGET_TMPDIR"));
+    let text = printed(&["--quick", "--plot", &file]);
+    let drawn = std::fs::read_to_string(&file).expect("the picture is there");
+    let rows = rows(&text);
+    for row in &rows {
+        let name = format!(">{}</text>", row.name);
+        assert!(drawn.contains(&name), "{}", row.name);
+    }
+    let dots = drawn.lines().filter(|line| line.starts_with("<circle "));
+    assert_eq!(dots.count(), rows.len() + 2 * points(&text));
+    assert!(drawn.starts_with("<svg ") && drawn.ends_with("</svg>\n"));
+    assert!(!drawn.contains("NaN") && !drawn.contains("inf"));
+}
+
 #[test]
 fn wrong_arguments_are_refused() {
     for arguments in [
         &["--all"][..],
         &["--row"],
+        &["--row", "no row of this name"],
+        &["--plot"],
+        &[
+            "--quick",
+            "--row",
+            "view: ",
+            "--plot",
+            "no/folder/of/this/name.svg",
+        ],
         &["--calls", "3"],
         &["--side", "reference"],
         &["--calls", "many", "--side", "reference"],

@@ -2,6 +2,7 @@
 
 use crate::about::order::lent_in;
 use crate::about::records;
+use crate::asked::Asked;
 use crate::case::Case;
 use crate::inputs::descriptors::numbers;
 use crate::inputs::elements::{self, Element};
@@ -76,51 +77,56 @@ fn by_rows() -> Vec<Curve> {
 }
 
 fn by_bytes() -> Vec<Curve> {
-    let mut curves = Vec::new();
-    for element in [
-        elements::doubles,
-        elements::flags,
-        elements::clusters,
-        elements::two_texts,
-        elements::nested,
-    ] {
-        curves.push(of_array("check_data", element, |record| {
-            questions::check_data(&record.descriptor, &record.data)
-        }));
-    }
+    let mut curves = of_checks();
     for element in [elements::doubles, elements::clusters] {
         curves.push(of_array("to_little_endian", element, |record| {
             questions::to_little_endian(&record.descriptor, &record.data, ROOM)
         }));
     }
-    curves.push(of_array(
-        "from_little_endian",
-        elements::clusters,
-        |record| {
+    let element = elements::clusters;
+    curves.extend([
+        of_array("from_little_endian", element, |record| {
             let form = lent_in(Order::Little, record);
             questions::from_little_endian(&record.descriptor, &form, ROOM)
-        },
-    ));
-    curves.push(of_array("view", elements::clusters, |record| {
-        let path = [vec![last(record), 2]];
-        questions::view(&record.descriptor, &record.data, &path)
-    }));
-    curves.push(of_array("read_value", elements::clusters, |record| {
-        let path = [vec![last(record), 1]];
-        questions::read_value(&record.descriptor, &record.data, &path)
-    }));
-    curves.push(curve(Along::Bytes, |bytes| {
-        let shape = shapes::long(bytes);
-        let asked = records::ask(&shape, ROOM);
-        Case::new("read_record", &shape.what, shape.data.len(), asked)
-    }));
+        }),
+        of_array("view", element, |record| {
+            let path = [vec![last(record), 2]];
+            questions::view(&record.descriptor, &record.data, &path)
+        }),
+        of_array("read_value", element, |record| {
+            let path = [vec![last(record), 1]];
+            questions::read_value(&record.descriptor, &record.data, &path)
+        }),
+        curve(Along::Bytes, |bytes| {
+            let shape = shapes::long(bytes);
+            let asked = records::ask(&shape, ROOM);
+            Case::new("read_record", &shape.what, shape.data.len(), asked)
+        }),
+    ]);
     curves
+}
+
+/// The check of data of several kinds.
+fn of_checks() -> Vec<Curve> {
+    let kinds = [
+        elements::doubles,
+        elements::flags,
+        elements::clusters,
+        elements::two_texts,
+        elements::nested,
+    ];
+    let curves = kinds.map(|element| {
+        of_array("check_data", element, |record| {
+            questions::check_data(&record.descriptor, &record.data)
+        })
+    });
+    curves.into()
 }
 
 fn of_array(
     entry: &'static str,
     element: fn() -> Element,
-    ask: impl Fn(&Record) -> crate::asked::Asked,
+    ask: impl Fn(&Record) -> Asked,
 ) -> Curve {
     let element = element();
     curve(Along::Bytes, |bytes| {

@@ -2,6 +2,7 @@
 
 use crate::inputs::descriptors::{array, cluster, number, states, text};
 use crate::inputs::elements::{Element, characters, double};
+use crate::numerals::thousands;
 
 /// Data under a descriptor, and how it can be refused.
 pub struct Record {
@@ -86,14 +87,6 @@ fn elements(element: impl Fn(usize) -> Vec<u8>, extent: Extent) -> (usize, Vec<u
         }
         data.extend(next);
         count += 1;
-    }
-}
-
-/// A number with a comma between its thousands.
-fn thousands(number: usize) -> String {
-    match number {
-        0..1000 => number.to_string(),
-        _ => format!("{},{:03}", number / 1000, number % 1000),
     }
 }
 
