@@ -46,7 +46,7 @@ test:
 	.ci/run
 
 bench: library
-	cargo run $(HOST) --package bench
+	cargo run $(HOST) --package bench -- --plot docs/bench.svg
 
 memcheck: library
 	@command -v valgrind > /dev/null || apt-get install -y valgrind
