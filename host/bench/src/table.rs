@@ -21,7 +21,7 @@ pub fn print_rows(rows: &[Case], times: &[Times]) {
             case.asked.number,
             times.kerbcanopy,
             times.reference,
-            times.ratio(),
+            times.ratio,
             of_the_copy(times),
         );
     }
@@ -55,7 +55,7 @@ pub fn print_growth(curves: &[Curve], times: &[Times]) {
         let first = &curve.points[0];
         print!("{:<18} {:<28}", first.entry, first.what);
         for times in times.by_ref().take(curve.points.len()) {
-            print!(" {:>10.1} {:>5.2}", times.kerbcanopy, times.ratio());
+            print!(" {:>10.1} {:>5.2}", times.kerbcanopy, times.ratio);
         }
         println!();
     }
@@ -78,7 +78,7 @@ fn print_places(curve: &Curve) {
 /// The rows that take longer than the second implementation, the worst first.
 pub fn print_above(rows: &[Case], times: &[Times]) {
     let mut above: Vec<(f64, String)> = (rows.iter().zip(times))
-        .map(|(case, times)| (times.ratio(), case.name()))
+        .map(|(case, times)| (times.ratio, case.name()))
         .filter(|(ratio, _)| *ratio > 1.0)
         .collect();
     above.sort_by(|first, second| second.0.total_cmp(&first.0));

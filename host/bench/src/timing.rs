@@ -36,13 +36,10 @@ impl Effort {
 pub struct Times {
     pub kerbcanopy: f64,
     pub reference: f64,
+    /// The one to the other, the median over the rounds: what slows a whole round
+    /// down slows both sides.
+    pub ratio: f64,
     pub copy: Option<f64>,
-}
-
-impl Times {
-    pub fn ratio(&self) -> f64 {
-        self.kerbcanopy / self.reference
-    }
 }
 
 /// Times every case.
@@ -59,6 +56,7 @@ pub fn measure<'a>(cases: impl Iterator<Item = &'a mut Case>, effort: Effort) ->
     let times = meters.iter().map(|sides| Times {
         kerbcanopy: sides[0].time(),
         reference: sides[1].time(),
+        ratio: ratio(&sides[0], &sides[1]),
         copy: sides.get(2).map(Meter::time),
     });
     times.collect()
@@ -124,6 +122,13 @@ impl Meter<'_> {
     }
 }
 
+/// The median of the rounds' ratios.
+fn ratio(first: &Meter, second: &Meter) -> f64 {
+    let rounds = first.medians.iter().zip(&second.medians);
+    let ratios: Vec<f64> = rounds.map(|(first, second)| first / second).collect();
+    median(&ratios)
+}
+
 /// The middle of the numbers, or the mean of the two in the middle.
 fn median(numbers: &[f64]) -> f64 {
     let mut sorted = numbers.to_vec();
@@ -138,6 +143,8 @@ fn median(numbers: &[f64]) -> f64 {
 #[cfg(test)]
 mod tests {
     use super::*;
+    use std::cell::RefCell;
+    use std::rc::Rc;
 
     #[test]
     fn the_median_is_in_the_middle() {
@@ -146,23 +153,36 @@ mod tests {
     }
 
     #[test]
+    fn the_ratio_is_that_of_the_rounds() {
+        let (mut first, mut second) = (nothing(), nothing());
+        let first = meter(&mut first, &[2.0, 40.0, 3.0]);
+        let second = meter(&mut second, &[1.0, 10.0, 1.0]);
+        assert_eq!(ratio(&first, &second), 3.0);
+    }
+
+    #[test]
     fn the_sides_take_turns() {
-        use std::cell::RefCell;
-        use std::rc::Rc;
         let order = Rc::new(RefCell::new(Vec::new()));
         let mut calls = ['a', 'b', 'c'].map(|side| {
             let order = order.clone();
             Box::new(move |_| order.borrow_mut().push(side)) as Repeated
         });
-        let sides = calls.iter_mut().map(|call| Meter {
-            call,
-            calls: 1,
-            medians: Vec::new(),
-        });
-        let mut sides: Vec<Meter> = sides.collect();
+        let mut sides: Vec<Meter> = calls.iter_mut().map(|call| meter(call, &[])).collect();
         take_round(&mut sides, 3);
         let order: String = order.borrow().iter().collect();
         assert_eq!(order, "abccbaabc");
         assert!(sides.iter().all(|side| side.medians.len() == 1));
+    }
+
+    fn nothing() -> Repeated {
+        Box::new(|_| {})
+    }
+
+    fn meter<'a>(call: &'a mut Repeated, medians: &[f64]) -> Meter<'a> {
+        Meter {
+            call,
+            calls: 1,
+            medians: medians.to_vec(),
+        }
     }
 }

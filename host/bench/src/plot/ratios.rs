@@ -28,7 +28,7 @@ pub fn draw(svg: &mut Svg, rows: &[Case], times: &[Times], top: f64) -> f64 {
         "small",
         "a dot for each row, logarithmic; left of 1 Kerbcanopy is faster",
     );
-    let range = around(times.iter().map(Times::ratio), 2.0);
+    let range = around(times.iter().map(|times| times.ratio), 2.0);
     let columns = in_columns(grouped(rows, times));
     let mut bottom = top;
     for (index, groups) in columns.iter().enumerate() {
@@ -79,7 +79,7 @@ fn draw_column(svg: &mut Svg, groups: &[Group], scale: Scale, from: (f64, f64)) 
         svg.text(left, y, "head", group[0].0.entry);
         y += LINE;
         for (case, times) in group {
-            draw_row(svg, case, times.ratio(), scale, (left, y));
+            draw_row(svg, case, times.ratio, scale, (left, y));
             y += LINE;
         }
         y += LINE;
