@@ -6,7 +6,7 @@ use crate::timing::Times;
 
 pub fn print_rows(rows: &[Case], times: &[Times]) {
     println!(
-        "{:<18} {:<48} {:>6} {:>11} {:>11} {:>6} {:>11}",
+        "{:<18} {:<50} {:>6} {:>11} {:>11} {:>6} {:>11}",
         "entry", "row", "number", "kerbcanopy", "reference", "ratio", "of the copy"
     );
     let mut entry = "";
@@ -16,7 +16,7 @@ pub fn print_rows(rows: &[Case], times: &[Times]) {
             println!();
         }
         println!(
-            "{entry:<18} {:<48} {:>6} {:>11.1} {:>11.1} {:>6.2} {:>11}",
+            "{entry:<18} {:<50} {:>6} {:>11.1} {:>11.1} {:>6.2} {:>11}",
             case.what,
             case.asked.number,
             times.kerbcanopy,

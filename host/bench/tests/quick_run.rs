@@ -43,10 +43,10 @@ fn rows(text: &str) -> Vec<Row> {
         .skip(1)
         .take_while(|line| !line.starts_with("kerbcanopy and"));
     let rows = table.filter(|line| !line.is_empty()).map(|line| {
-        let numbers: Vec<&str> = line[68..].split_whitespace().collect();
+        let numbers: Vec<&str> = line[69..].split_whitespace().collect();
         Row {
             entry: line[..19].trim().into(),
-            name: line[19..68].trim().into(),
+            name: line[19..69].trim().into(),
             number: numbers[0].parse().expect("a number"),
             copied: numbers.len() == 5,
         }
