@@ -103,7 +103,7 @@ fn repeated<A>(
 
 /// A plain copy of so many bytes.
 pub fn copied(length: usize) -> Repeated {
-    let (from, mut to) = (vec![1; length], vec![0; length]);
+    let (from, mut to) = (vec![1_u8; length], vec![0; length]);
     Box::new(move |times| {
         for _ in 0..times {
             black_box(&mut to).copy_from_slice(black_box(&from));
