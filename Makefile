@@ -40,7 +40,7 @@ test: ## the gate, which proves and tests everything
 	.ci/run
 
 bench: library ## the library and the second implementation, timed side by side
-	cargo run $(HOST) --package bench
+	cargo run $(HOST) --package bench -- --plot docs/bench.svg
 
 fuzz: library ## the differential test over fresh seeds on every core, for MINUTES (10)
 	cargo run $(HOST) --package differential -- --minutes $(MINUTES)

@@ -1,167 +1,80 @@
-//! Each question put to both implementations, timed once both have given the
-//! same answer.
+//! The nine questions, each put to both implementations.
 
-use std::hint::black_box;
-
-use crate::timing::{Times, best_of_both, best_of_one};
+use crate::asked::{Asked, Lent, asked};
 
 /// Room for every output.
-const OUT: usize = 65536;
+pub const ROOM: usize = 65536;
 
-pub fn check_descriptor(bytes: &[u8]) -> Times {
-    let proved = kerbcanopy::check_descriptor(bytes).answer;
-    agree(proved, reference::check_descriptor(bytes).answer);
-    best_of_both(
-        || {
-            black_box(&kerbcanopy::check_descriptor(black_box(bytes)));
-        },
-        || {
-            black_box(&reference::check_descriptor(black_box(bytes)));
-        },
+pub fn check_descriptor(descriptor: &[u8]) -> Asked {
+    asked(
+        Lent::new(&[descriptor]),
+        |lent, _, _| kerbcanopy::check_descriptor(&lent.bytes[0]),
+        |lent, _, _| reference::check_descriptor(&lent.bytes[0]),
     )
 }
 
-pub fn compare(first: &[u8], second: &[u8]) -> Times {
-    let proved = kerbcanopy::compare(first, second);
-    let other = reference::compare(first, second);
-    agree(proved.answer, other.answer);
-    assert_eq!(proved.equal, other.equal);
-    best_of_both(
-        || {
-            black_box(kerbcanopy::compare(black_box(first), black_box(second)));
-        },
-        || {
-            black_box(reference::compare(black_box(first), black_box(second)));
-        },
+pub fn compare(first: &[u8], second: &[u8]) -> Asked {
+    asked(
+        Lent::new(&[first, second]),
+        |lent, _, _| kerbcanopy::compare(&lent.bytes[0], &lent.bytes[1]),
+        |lent, _, _| reference::compare(&lent.bytes[0], &lent.bytes[1]),
     )
 }
 
-pub fn normal_form(bytes: &[u8]) -> Times {
-    let (mut first, mut second) = (vec![0; OUT], vec![0; OUT]);
-    let proved = kerbcanopy::normal_form(bytes, &mut first);
-    agree(proved, reference::normal_form(bytes, &mut second));
-    best_of_both(
-        || {
-            black_box(kerbcanopy::normal_form(
-                black_box(bytes),
-                black_box(&mut first),
-            ));
-        },
-        || {
-            black_box(reference::normal_form(
-                black_box(bytes),
-                black_box(&mut second),
-            ));
-        },
+pub fn normal_form(descriptor: &[u8], room: usize) -> Asked {
+    asked(
+        Lent::new(&[descriptor]).with_room(room),
+        |lent, _, out| kerbcanopy::normal_form(&lent.bytes[0], out),
+        |lent, _, out| reference::normal_form(&lent.bytes[0], out),
     )
 }
 
-pub fn check_data(descriptor: &[u8], data: &[u8]) -> Times {
-    let proved = kerbcanopy::check_data(descriptor, data);
-    agree(proved, reference::check_data(descriptor, data));
-    best_of_both(
-        || {
-            black_box(kerbcanopy::check_data(
-                black_box(descriptor),
-                black_box(data),
-            ));
-        },
-        || {
-            black_box(reference::check_data(
-                black_box(descriptor),
-                black_box(data),
-            ));
-        },
+pub fn check_data(descriptor: &[u8], data: &[u8]) -> Asked {
+    asked(
+        Lent::new(&[descriptor, data]),
+        |lent, _, _| kerbcanopy::check_data(&lent.bytes[0], &lent.bytes[1]),
+        |lent, _, _| reference::check_data(&lent.bytes[0], &lent.bytes[1]),
     )
 }
 
-pub fn to_little_endian(descriptor: &[u8], data: &[u8]) -> Times {
-    let (mut first, mut second) = (vec![0; OUT], vec![0; OUT]);
-    let proved = kerbcanopy::to_little_endian(descriptor, data, &mut first);
-    agree(
-        proved,
-        reference::to_little_endian(descriptor, data, &mut second),
-    );
-    assert_eq!(first, second);
-    best_of_both(
-        || {
-            black_box(kerbcanopy::to_little_endian(
-                black_box(descriptor),
-                black_box(data),
-                black_box(&mut first),
-            ));
-        },
-        || {
-            black_box(reference::to_little_endian(
-                black_box(descriptor),
-                black_box(data),
-                black_box(&mut second),
-            ));
-        },
+pub fn to_little_endian(descriptor: &[u8], data: &[u8], room: usize) -> Asked {
+    asked(
+        Lent::new(&[descriptor, data]).with_room(room),
+        |lent, _, out| kerbcanopy::to_little_endian(&lent.bytes[0], &lent.bytes[1], out),
+        |lent, _, out| reference::to_little_endian(&lent.bytes[0], &lent.bytes[1], out),
+    )
+}
+
+pub fn from_little_endian(descriptor: &[u8], data: &[u8], room: usize) -> Asked {
+    asked(
+        Lent::new(&[descriptor, data]).with_room(room),
+        |lent, _, out| kerbcanopy::from_little_endian(&lent.bytes[0], &lent.bytes[1], out),
+        |lent, _, out| reference::from_little_endian(&lent.bytes[0], &lent.bytes[1], out),
+    )
+}
+
+/// Views the part at each of the paths.
+pub fn view(descriptor: &[u8], data: &[u8], paths: &[Vec<u32>]) -> Asked {
+    asked(
+        Lent::new(&[descriptor, data]).with_paths(paths),
+        |lent, path, _| kerbcanopy::view(&lent.bytes[0], &lent.bytes[1], path),
+        |lent, path, _| reference::view(&lent.bytes[0], &lent.bytes[1], path),
     )
 }
 
 /// Reads the value at each of the paths.
-pub fn read_values(descriptor: &[u8], data: &[u8], paths: &[[u32; 1]]) -> Times {
-    for path in paths {
-        let proved = kerbcanopy::read_value(descriptor, data, path);
-        let other = reference::read_value(descriptor, data, path);
-        agree(proved.answer, other.answer);
-        assert_eq!((proved.kind, proved.bits), (other.kind, other.bits));
-    }
-    best_of_both(
-        || {
-            for path in black_box(paths) {
-                black_box(kerbcanopy::read_value(black_box(descriptor), data, path));
-            }
-        },
-        || {
-            for path in black_box(paths) {
-                black_box(reference::read_value(black_box(descriptor), data, path));
-            }
-        },
+pub fn read_value(descriptor: &[u8], data: &[u8], paths: &[Vec<u32>]) -> Asked {
+    asked(
+        Lent::new(&[descriptor, data]).with_paths(paths),
+        |lent, path, _| kerbcanopy::read_value(&lent.bytes[0], &lent.bytes[1], path),
+        |lent, path, _| reference::read_value(&lent.bytes[0], &lent.bytes[1], path),
     )
 }
 
-pub fn read_record(writer: &[u8], reader: &[u8], data: &[u8]) -> Times {
-    let (mut first, mut second) = (vec![0; OUT], vec![0; OUT]);
-    let proved = kerbcanopy::read_record(writer, reader, data, &mut first);
-    agree(
-        proved,
-        reference::read_record(writer, reader, data, &mut second),
-    );
-    assert_eq!(first, second);
-    best_of_both(
-        || {
-            black_box(kerbcanopy::read_record(
-                black_box(writer),
-                black_box(reader),
-                black_box(data),
-                black_box(&mut first),
-            ));
-        },
-        || {
-            black_box(reference::read_record(
-                black_box(writer),
-                black_box(reader),
-                black_box(data),
-                black_box(&mut second),
-            ));
-        },
+pub fn read_record(writer: &[u8], reader: &[u8], data: &[u8], room: usize) -> Asked {
+    asked(
+        Lent::new(&[writer, reader, data]).with_room(room),
+        |lent, _, out| kerbcanopy::read_record(&lent.bytes[0], &lent.bytes[1], &lent.bytes[2], out),
+        |lent, _, out| reference::read_record(&lent.bytes[0], &lent.bytes[1], &lent.bytes[2], out),
     )
-}
-
-/// A plain copy of the bytes, the floor for whatever reads them all.
-pub fn copy(bytes: &[u8]) -> f64 {
-    let mut out = vec![0; OUT];
-    best_of_one(|| {
-        let bytes = black_box(bytes);
-        out[..bytes.len()].copy_from_slice(bytes);
-        black_box(&mut out);
-    })
-}
-
-fn agree(proved: kerbcanopy::Answer, other: reference::Answer) {
-    let proved = [proved.number, proved.input, proved.place];
-    assert_eq!(proved, [other.number, other.input, other.place]);
 }

@@ -1,8 +1,16 @@
-//! The descriptors that are timed: 2 rows, a bath rig's 14, and all 256.
+//! The descriptors that are timed, and how descriptors are put together.
 
-/// The three descriptors, from the smallest to the largest.
-pub fn all() -> [Vec<u8>; 3] {
-    [array("", number(0x0A, "")), rig(), widest()]
+/// Those with all kinds of rows: 2, a bath rig's 14, all 256, and three that are
+/// long or deep in one way.
+pub fn all() -> [(&'static str, Vec<u8>); 6] {
+    [
+        ("2 rows", array("", number(0x0A, ""))),
+        ("14 rows", rig()),
+        ("256 rows", numbers(256)),
+        ("clusters eight deep", deepest()),
+        ("an enumeration of 250 items", items()),
+        ("40 quantities of nine pairs", quantities()),
+    ]
 }
 
 /// A descriptor of a body, children and a name; no name where it is empty.
@@ -75,8 +83,33 @@ fn rig() -> Vec<u8> {
     )
 }
 
-/// A cluster of 255 named numbers.
-fn widest() -> Vec<u8> {
-    let members = (0..255).map(|index| number(0x03, &format!("m{index:03}")));
+/// A cluster of named numbers that has so many rows, itself among them.
+pub fn numbers(rows: usize) -> Vec<u8> {
+    let members = (1..rows).map(|index| number(0x03, &format!("m{index:03}")));
+    cluster("", &members.collect::<Vec<_>>())
+}
+
+/// Clusters in clusters down to the last depth, a named number in each.
+fn deepest() -> Vec<u8> {
+    (1..8).fold(number(0x0A, "deepest"), |inside, _| {
+        cluster("outer", &[number(0x07, "id"), inside])
+    })
+}
+
+/// An enumeration with many items.
+fn items() -> Vec<u8> {
+    let mut body = vec![0, 250];
+    for index in 0..250 {
+        body.push(8);
+        body.extend(format!("item {index:03}").bytes());
+    }
+    cluster("", &[descriptor(0x16, &body, "many", &[])])
+}
+
+/// Physical quantities with as many unit pairs as there may be.
+fn quantities() -> Vec<u8> {
+    let pairs = (0..9).flat_map(|base| [0, base, 0xFF, 0xFE]);
+    let body: Vec<u8> = [0, 9].into_iter().chain(pairs).collect();
+    let members = (0..40).map(|index| descriptor(0x1A, &body, &format!("q{index:02}"), &[]));
     cluster("", &members.collect::<Vec<_>>())
 }

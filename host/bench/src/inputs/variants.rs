@@ -1,5 +1,5 @@
 //! Copies of an accepted descriptor that differ or are refused, early or late.
-//! Early is in the first member, late in the last name.
+//! Early is in the first descriptor inside, late in the last name.
 
 use reference::Row;
 
@@ -24,7 +24,7 @@ pub fn late_difference(bytes: &[u8]) -> Vec<u8> {
     with_another(bytes, usize::from(last.name_place + last.name_length - 1))
 }
 
-/// A copy whose first member has a code that is not carried: 5.
+/// A copy whose first row inside has a code that is not carried: 5.
 pub fn refused_early(bytes: &[u8]) -> Vec<u8> {
     let first = rows(bytes)[1];
     let mut copy = bytes.to_vec();
@@ -32,10 +32,14 @@ pub fn refused_early(bytes: &[u8]) -> Vec<u8> {
     copy
 }
 
-/// A copy whose last row has a name that runs over: 11.
+/// A copy whose last row has a name that runs over: 11. Where it has no name, two
+/// bytes stand after the top: 12.
 pub fn refused_late(bytes: &[u8]) -> Vec<u8> {
     let mut copy = bytes.to_vec();
-    copy[usize::from(last(bytes).name_place) - 1] += 2;
+    match usize::from(last(bytes).name_place) {
+        0 => copy.extend([0, 0]),
+        place => copy[place - 1] += 2,
+    }
     copy
 }
 

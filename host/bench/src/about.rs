@@ -1,0 +1,22 @@
+//! All that is timed, by entry.
+
+mod data;
+mod descriptors;
+mod growth;
+mod order;
+mod paths;
+mod records;
+
+use crate::case::Case;
+
+pub use growth::{Along, Curve, curves};
+
+/// The rows of the table.
+pub fn rows() -> Vec<Case> {
+    let mut rows = descriptors::rows();
+    rows.extend(data::rows());
+    rows.extend(order::rows());
+    rows.extend(paths::rows());
+    rows.extend(records::rows());
+    rows
+}

@@ -1,0 +1,7 @@
+//! What the questions are about.
+
+pub mod descriptors;
+pub mod elements;
+pub mod records;
+pub mod shapes;
+pub mod variants;
