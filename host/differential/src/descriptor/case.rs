@@ -142,7 +142,7 @@ fn tree_case(random: &mut Random, kind: Kind, tree: &Tree) -> Case {
         true => Change::Nothing,
         false => Change::Everything,
     };
-    for (other, change) in [twin(random, tree), twin(random, tree), (stranger, change)] {
+    for (other, change) in [twin(random, tree), (stranger, change)] {
         case.partners.push(Partner {
             bytes: encode(random, &other).bytes,
             equal: Some(other == *tree && fits(&other)),
