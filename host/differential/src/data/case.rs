@@ -49,7 +49,7 @@ impl Case {
 
     /// A case by chance.
     pub fn any(random: &mut Random) -> Case {
-        if random.once_in(500) {
+        if random.once_in(400) {
             return long(random);
         }
         let tree = match random.once_in(4) {

@@ -72,8 +72,8 @@ impl Case {
 
     /// A case by chance.
     pub fn any(random: &mut Random) -> Case {
-        if random.once_in(80) {
-            return match random.once_in(5) {
+        if random.once_in(60) {
+            return match random.once_in(6) {
                 true => wide::long(random),
                 false => wide::wide(random),
             };

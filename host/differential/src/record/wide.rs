@@ -75,12 +75,12 @@ fn fault(random: &mut Random, trees: &mut [Tree], wanted: &mut [Tree]) {
     let place = wanted.len() - random.pick(&[1, 1, 1, 2]);
     let earlier = wanted[random.below(place)].name.clone();
     let last = wanted[place].name.clone();
-    match random.below(7) {
+    match random.below(8) {
         0 => wanted[place].name = earlier,
         1 => wanted[place].name = Some(Vec::new()).filter(|_| random.once_in(2)),
         2 => wanted[place].name = Some(b"name1000xyz".to_vec()),
-        3 => wanted[place].body = Body::Plain(random.pick(&[0x01, 0x02, 0x05, 0x21])),
-        4 | 5 => {
+        3 | 4 => wanted[place].body = Body::Plain(random.pick(&[0x01, 0x02, 0x05, 0x21])),
+        5 | 6 => {
             let asked = |tree: &Tree| wanted.iter().any(|member| member.name == tree.name);
             if let Some(unasked) = trees.iter_mut().find(|tree| !asked(tree)) {
                 unasked.name = last;
