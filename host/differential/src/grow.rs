@@ -170,7 +170,7 @@ fn enumeration(random: &mut Random, room: &mut Room) -> Body {
     if !room.take(4) {
         return Body::Plain(random.pick(&PLAIN));
     }
-    if random.once_in(12) {
+    if random.once_in(24) {
         return Body::Enumeration(code, many_items(random, room));
     }
     let mut items = vec![Vec::new()];
@@ -189,7 +189,7 @@ fn enumeration(random: &mut Random, room: &mut Room) -> Body {
 /// As many empty items as there is room for at most, counted from one that has
 /// its bytes already.
 fn many_items(random: &mut Random, room: &mut Room) -> Vec<Vec<u8>> {
-    let count = match random.below(4) {
+    let count = match random.below(8) {
         0 => random.between(1, 4000),
         _ => random.pick(&[127, 128, 253, 254, 255, 256, 257, 300]),
     };

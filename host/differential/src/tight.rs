@@ -55,11 +55,11 @@ fn named(random: &mut Random, body: Body) -> Tree {
 
 /// A small tree whose counts are at their limits.
 fn tip(random: &mut Random) -> Tree {
-    let body = match random.below(8) {
+    let body = match random.below(9) {
         0 => Body::Text,
         1 => quantity(random, &[1, 2, 8, 9]),
         2 => few_items(random),
-        3 => {
+        3 | 8 => {
             let count = random.pick(&[253, 254, 255, 256, 257]);
             Body::Enumeration(random.pick(&ENUMERATIONS), vec![Vec::new(); count])
         }

@@ -83,9 +83,10 @@ fn bare(kind: Kind, descriptor: Vec<u8>, data: Both, asks: Vec<Ask>) -> Case {
 
 /// How long the data may be; seldom very long, since that takes its time.
 fn length(random: &mut Random) -> usize {
-    match random.once_in(400) {
-        true => MOST_DATA,
-        false => random.pick(&[0, 20, 60, 60, 200, 200, 600, 2000]),
+    match random.below(400) {
+        0 => MOST_DATA,
+        1..6 => 10_000,
+        _ => random.pick(&[0, 20, 60, 60, 200, 200, 600, 2000]),
     }
 }
 

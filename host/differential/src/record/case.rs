@@ -72,8 +72,8 @@ impl Case {
 
     /// A case by chance.
     pub fn any(random: &mut Random) -> Case {
-        if random.once_in(40) {
-            return match random.once_in(10) {
+        if random.once_in(60) {
+            return match random.once_in(6) {
                 true => wide::long(random),
                 false => wide::wide(random),
             };
@@ -135,8 +135,8 @@ fn damaged(random: &mut Random, rig: &Rig) -> Case {
     }
 }
 
-/// A writer or a reader that is damaged or too large, and at times data that is
-/// refused as well.
+/// A writer, a reader or both that are damaged or too large, and at times data that
+/// is refused as well.
 fn misread(random: &mut Random, rig: &Rig) -> Case {
     let mut record = Record::new(random, &rig.tree(), rig.record().data.big);
     let reader = wanted::any(random, rig);
@@ -144,11 +144,18 @@ fn misread(random: &mut Random, rig: &Rig) -> Case {
     if random.once_in(3) {
         record.data = damage(random, &rig.record()).data.big;
     }
-    match random.below(4) {
-        0 => record.writer = damage_descriptor(random, &rig.tree().normal_form()).bytes,
-        1 => record.writer = grow::wild(random).normal_form().bytes,
-        2 => reader.bytes = grow::wild(random).normal_form().bytes,
-        _ => reader.bytes = damage_descriptor(random, &reader).bytes,
+    let which = random.below(5);
+    if which != 0 && which != 1 {
+        record.writer = match random.once_in(2) {
+            true => damage_descriptor(random, &rig.tree().normal_form()).bytes,
+            false => grow::wild(random).normal_form().bytes,
+        };
+    }
+    if which != 2 && which != 3 {
+        reader.bytes = match random.once_in(2) {
+            true => damage_descriptor(random, &reader).bytes,
+            false => grow::wild(random).normal_form().bytes,
+        };
     }
     bare(Kind::DamagedRecord, record, reader.bytes)
 }

@@ -208,6 +208,31 @@ fn order(limits: &mut Limits) {
     let trees = [blank(), cluster(&[nameless()])];
     let refusal = Err(refused(20, 0));
     limits.add("long data and no name", trees, &vec![0; 65537], refusal);
+    inputs(limits);
+}
+
+/// The writer before the reader, and the reader before the data.
+fn inputs(limits: &mut Limits) {
+    let no_members = |input| {
+        let (number, place) = (9, 0);
+        Err(Answer {
+            number,
+            input,
+            place,
+        })
+    };
+    let empty = cluster(&[]);
+    for data in [&BLANK[..], &[], &[0; 7], &[0; 65537]] {
+        let what = format!("no members, {} bytes of data", data.len());
+        for reader in [blank(), empty.clone(), id()] {
+            let trees = [empty.clone(), reader];
+            limits.add(format!("{what}: writer"), trees, data, no_members(1));
+        }
+        for writer in [blank(), id()] {
+            let trees = [writer, empty.clone()];
+            limits.add(format!("{what}: reader"), trees, data, no_members(2));
+        }
+    }
 }
 
 /// 42 and 43, and which names count.

@@ -6,6 +6,7 @@ pub fn add(limits: &mut Limits) {
     bytes_and_texts(limits);
     records(limits);
     last_pieces(limits);
+    far_elements(limits);
     too_long(limits);
 }
 
@@ -93,6 +94,23 @@ fn last_pieces(limits: &mut Limits) {
     limits.refused("65,532 bytes less one", &bytes, cut, 21, 65535);
     let cut = counted(65532, 7).cut(65535);
     limits.refused("65,532 characters less one", &text(), cut, 21, 0);
+}
+
+/// A Boolean at fault far behind the first element, where elements have a width
+/// that divides no power of two.
+fn far_elements(limits: &mut Limits) {
+    let (count, width) = (5000, 3);
+    let tree = array(1, cluster(vec![plain(0x21), plain(0x06)]));
+    let element = |data: Both, _| data.plain(&[1]).number(&[2, 3]);
+    let data = (0..count).fold(Both::new().word(count as u32), element);
+    limits.accepted("5,000 clusters", &tree, data.clone(), 1 + 2 * count);
+    for index in [0, 682, 683, 1364, 1365, 1366, 2731, 4096, 4999] {
+        let mut wrong = data.clone();
+        let place = 4 + width * index;
+        wrong.set_number(place, &[2]);
+        let what = format!("cluster {index} of 5,000 at fault");
+        limits.refused(what, &tree, wrong, 24, place);
+    }
 }
 
 /// Too long, and wrong from the first byte.
