@@ -182,5 +182,14 @@ fn the_documents_name_files_that_are_there() {
                 "{document}: no {target}"
             );
         }
+        for word in text.split('`').skip(1).step_by(2) {
+            let parts = ["/specs/", "/src/", "/proofs/"].map(|part| word.contains(part));
+            let plain = !word.contains([' ', '*', '\n', '{']);
+            let there = ["", "crates", "host"].map(|top| root().join(top).join(word).exists());
+            assert!(
+                !(plain && parts.contains(&true)) || there.contains(&true),
+                "{document}: no {word}"
+            );
+        }
     }
 }
