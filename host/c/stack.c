@@ -4,7 +4,8 @@
  * Each entry is asked on a thread whose stack is a painted buffer, and the paint that is left says how deep it went; what a thread uses
  * that calls an empty function instead is taken off. The inputs are every nesting of arrays and clusters up to one level too many, with
  * each kind of value innermost and with and without others beside it, and a cluster of many members; each is asked whole, cut at every
- * byte and with every byte changed, in its descriptor and in its data. Then the deepest are asked on the smallest stack of a thread.
+ * byte and with every byte changed, in its descriptor and in its data. Then the deepest are asked on the smallest stack of a thread,
+ * and of the one entry that needs more on a larger one.
  */
 #define _DEFAULT_SOURCE
 #include <kerbcanopy.h>
@@ -28,8 +29,10 @@ enum {
     TO_LITTLE_ENDIAN,
     FROM_LITTLE_ENDIAN,
     READ_RECORD,
-    ENTRIES,
-    NOTHING = ENTRIES /* the empty function */
+    INTO, /* from here on those that fill lent numbers, in the same order */
+    ENTRIES = 2 * INTO,
+    NOTHING = ENTRIES, /* the empty function, called as the first are */
+    NOTHING_INTO       /* and as the others are */
 };
 
 enum {
@@ -44,8 +47,24 @@ enum {
 };
 
 static const char *const names[ENTRIES] = {
-    "kc_check_descriptor", "kc_compare",          "kc_normal_form",        "kc_check_data", "kc_view",
-    "kc_read_value",       "kc_to_little_endian", "kc_from_little_endian", "kc_read_record",
+    "kc_check_descriptor",
+    "kc_compare",
+    "kc_normal_form",
+    "kc_check_data",
+    "kc_view",
+    "kc_read_value",
+    "kc_to_little_endian",
+    "kc_from_little_endian",
+    "kc_read_record",
+    "kc_check_descriptor_into",
+    "kc_compare_into",
+    "kc_normal_form_into",
+    "kc_check_data_into",
+    "kc_view_into",
+    "kc_read_value_into",
+    "kc_to_little_endian_into",
+    "kc_from_little_endian_into",
+    "kc_read_record_into",
 };
 
 typedef struct {
@@ -64,56 +83,104 @@ static uint32_t path[STEPS];
 static uint8_t out[ROOM];
 static question questions[QUESTIONS];
 static size_t question_count;
-static size_t answers[ENTRIES][64];
+static size_t answers[NOTHING_INTO + 1][64];
 
 static void do_nothing(void) {}
 static void (*volatile nothing)(void) = do_nothing;
 
-static void count(int entry, kc_answer answer) {
-    answers[entry][answer.number % 64]++;
+static void count(int entry, uint32_t number) {
+    answers[entry][number % 64]++;
 }
 
-/* The frame of this function is there for every entry and for the empty function, so it is in no figure. */
+/*
+ * The frame of this function is there for every entry that it calls and for the empty function, so it is in no figure. Counting comes
+ * after every call, so that none becomes a jump that gives the frame up.
+ */
 static void ask(int entry, const question *q) {
-    static kc_checked checked;
-    static kc_part part;
-    static kc_value value;
+    static kc_answer answer;
     const uint8_t *f = first.bytes, *s = second.bytes, *d = data.bytes;
     switch (entry) {
     case CHECK_DESCRIPTOR:
-        checked = kc_check_descriptor(f, q->first_len);
-        count(entry, checked.answer);
+        answer = kc_check_descriptor(f, q->first_len).answer;
         break;
     case COMPARE:
-        count(entry, kc_compare(f, q->first_len, s, second.length).answer);
+        answer = kc_compare(f, q->first_len, s, second.length).answer;
         break;
     case NORMAL_FORM:
-        count(entry, kc_normal_form(f, q->first_len, out, q->room));
+        answer = kc_normal_form(f, q->first_len, out, q->room);
         break;
     case CHECK_DATA:
-        count(entry, kc_check_data(f, q->first_len, d, q->data_len));
+        answer = kc_check_data(f, q->first_len, d, q->data_len);
         break;
     case VIEW:
-        part = kc_view(f, q->first_len, d, q->data_len, path, q->path_len);
-        count(entry, part.answer);
+        answer = kc_view(f, q->first_len, d, q->data_len, path, q->path_len).answer;
         break;
     case READ_VALUE:
-        value = kc_read_value(f, q->first_len, d, q->data_len, path, q->path_len);
-        count(entry, value.answer);
+        answer = kc_read_value(f, q->first_len, d, q->data_len, path, q->path_len).answer;
         break;
     case TO_LITTLE_ENDIAN:
-        count(entry, kc_to_little_endian(f, q->first_len, d, q->data_len, out, q->room));
+        answer = kc_to_little_endian(f, q->first_len, d, q->data_len, out, q->room);
         break;
     case FROM_LITTLE_ENDIAN:
-        count(entry, kc_from_little_endian(f, q->first_len, d, q->data_len, out, q->room));
+        answer = kc_from_little_endian(f, q->first_len, d, q->data_len, out, q->room);
         break;
     case READ_RECORD:
-        count(entry, kc_read_record(f, q->first_len, s, second.length, d, q->data_len, out, q->room));
+        answer = kc_read_record(f, q->first_len, s, second.length, d, q->data_len, out, q->room);
         break;
     default:
         nothing();
     }
+    count(entry, answer.number);
 }
+
+/* The same for the entries that fill lent numbers. */
+static void ask_into(int entry, const question *q) {
+    static uint32_t answer[KC_ANSWER_NUMBERS], kind;
+    static uint16_t table[KC_TABLE_NUMBERS];
+    static uint64_t start, length, bits;
+    static uint8_t equal;
+    const uint8_t *f = first.bytes, *s = second.bytes, *d = data.bytes;
+    switch (entry - INTO) {
+    case CHECK_DESCRIPTOR:
+        kc_check_descriptor_into(f, q->first_len, answer, table);
+        break;
+    case COMPARE:
+        kc_compare_into(f, q->first_len, s, second.length, answer, &equal);
+        break;
+    case NORMAL_FORM:
+        kc_normal_form_into(f, q->first_len, out, q->room, answer);
+        break;
+    case CHECK_DATA:
+        kc_check_data_into(f, q->first_len, d, q->data_len, answer);
+        break;
+    case VIEW:
+        kc_view_into(f, q->first_len, d, q->data_len, path, q->path_len, answer, &start, &length);
+        break;
+    case READ_VALUE:
+        kc_read_value_into(f, q->first_len, d, q->data_len, path, q->path_len, answer, &kind, &bits);
+        break;
+    case TO_LITTLE_ENDIAN:
+        kc_to_little_endian_into(f, q->first_len, d, q->data_len, out, q->room, answer);
+        break;
+    case FROM_LITTLE_ENDIAN:
+        kc_from_little_endian_into(f, q->first_len, d, q->data_len, out, q->room, answer);
+        break;
+    case READ_RECORD:
+        kc_read_record_into(f, q->first_len, s, second.length, d, q->data_len, out, q->room, answer);
+        break;
+    default:
+        nothing();
+    }
+    count(entry, answer[0]);
+}
+
+/* Whether an entry, or the empty function, is called as those are that fill lent numbers. */
+static bool is_into(int entry) {
+    return entry >= INTO && entry != NOTHING;
+}
+
+/* Called through pointers that may change, so that neither function's frame becomes part of its caller's. */
+static void (*volatile asking[])(int entry, const question *q) = {ask, ask_into};
 
 typedef struct {
     int entry;
@@ -128,7 +195,7 @@ static void *answer_all(void *argument) {
         uint8_t *changed = questions[i].changed;
         if (changed)
             *changed ^= 0xFF;
-        ask(t->entry, &questions[i]);
+        asking[is_into(t->entry)](t->entry, &questions[i]);
         if (changed)
             *changed ^= 0xFF;
     }
@@ -174,7 +241,7 @@ static size_t used_by(uint8_t *stack, size_t size, int entry) {
 
 /* The same, the data being in the byte order that the entry reads. */
 static size_t used(uint8_t *stack, size_t size, int entry) {
-    if (entry != FROM_LITTLE_ENDIAN)
+    if (entry % INTO != FROM_LITTLE_ENDIAN)
         return used_by(stack, size, entry);
     exchange(&data, &little);
     size_t bytes = used_by(stack, size, entry);
@@ -300,14 +367,18 @@ static void prepare(const nesting *n) {
     add()->data_len = data.length + 1;
 }
 
+/* What a thread uses without the entry. */
+static size_t used_without(uint8_t *stack, size_t size, int entry) {
+    return used(stack, size, is_into(entry) ? NOTHING_INTO : NOTHING);
+}
+
 static size_t deepest[ENTRIES]; /* above what a thread uses by itself */
 static nesting worst[ENTRIES];
 
 static void measure(uint8_t *stack, const nesting *n) {
     prepare(n);
-    size_t without = used(stack, STACK, NOTHING);
     for (int e = 0; e < ENTRIES; e++) {
-        size_t more = used(stack, STACK, e) - without;
+        size_t more = used(stack, STACK, e) - used_without(stack, STACK, e);
         if (more > deepest[e]) {
             deepest[e] = more;
             worst[e] = *n;
@@ -366,14 +437,20 @@ static bool compare(FILE *document) {
     return good;
 }
 
-/* Asks each entry its deepest nesting's questions on the smallest stack that a thread may have. */
+/* The smallest stack that a thread may have; 4 KiB more for the one entry that it is too small for. */
+static size_t small(int entry) {
+    size_t smallest = (size_t)sysconf(_SC_THREAD_STACK_MIN);
+    return entry == INTO + CHECK_DESCRIPTOR ? smallest + 4096 : smallest;
+}
+
+/* Asks each entry its deepest nesting's questions on a small stack. */
 static bool ask_small(void) {
     bool good = true;
-    size_t size = (size_t)sysconf(_SC_THREAD_STACK_MIN);
-    uint8_t *stack = new_stack(size);
     for (int e = 0; e < ENTRIES; e++) {
+        size_t size = small(e);
+        uint8_t *stack = new_stack(size);
         prepare(&worst[e]);
-        bool fits = used(stack, size, NOTHING) + deepest[e] < size && used(stack, size, e) < size;
+        bool fits = used_without(stack, size, e) + deepest[e] < size && used(stack, size, e) < size;
         printf("%s %s: on a thread with %zu bytes of stack in all\n", fits ? "ok" : "not ok", names[e], size);
         good = good && fits;
     }
@@ -382,14 +459,14 @@ static bool ask_small(void) {
 
 /* Each entry was accepted and was refused with the numbers that stand for its parts, so the questions are what they are meant to be. */
 static bool answered(void) {
-    static const unsigned numbers[ENTRIES][16] = {
+    static const unsigned numbers[INTO][16] = {
         {2, 4, 6, 11, 12}, {2, 4, 6, 11, 12}, {6, 12, 50}, {6, 12, 21, 22, 23, 24, 25}, {6, 21, 22, 23, 24, 25, 30},
         {6, 21, 22, 23, 24, 25, 30, 31}, {6, 21, 22, 23, 24, 25, 50}, {6, 21, 22, 23, 24, 25, 50}, {6, 21, 22, 23, 24, 25, 40, 44, 50},
     };
     bool good = true;
     for (int e = 0; e < ENTRIES; e++) {
         size_t missed = answers[e][0] == 0;
-        for (const unsigned *number = numbers[e]; *number; number++)
+        for (const unsigned *number = numbers[e % INTO]; *number; number++)
             missed += answers[e][*number] == 0;
         printf("%s %s: accepted, and refused in each of its parts\n", missed == 0 ? "ok" : "not ok", names[e]);
         good = good && missed == 0;
