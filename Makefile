@@ -19,7 +19,9 @@ ARCHIVE = target/staticlib/libkerbcanopy.a
 COMMAND = host/target/release/kerbcanopy
 HOST = --release --offline --locked --manifest-path host/Cargo.toml --target-dir host/target
 # The crates that the library is made of, each behind those that it uses.
-CRATES := $(shell awk '$$1 == "kerbcanopy:" { for (i = NF; i > 1; i--) print $$i }' crates.txt)
+CRATES := $(shell awk -F '[: ]+' '{ uses[$$1] = $$0; name[NR] = $$1 } END { need["kerbcanopy"] = 1; \
+    for (i = NR; i; i--) if (need[name[i]]) { n = split(uses[name[i]], u); for (j = 2; j <= n; j++) need[u[j]] = 1 } \
+    for (i = 1; i <= NR; i++) if (need[name[i]] && name[i] != "kerbcanopy") print name[i] }' crates.txt)
 PROVED := crates.txt $(shell find crates -name '*.rt' -o -name '*.antt')
 # What the command is built from; a test of it changes nothing.
 COMMANDED := host/Cargo.toml host/Cargo.lock $(shell find host/binding host/cli -type f -not -path '*/tests/*')
@@ -76,7 +78,7 @@ $(ARCHIVE): $(PROVED)
 	done
 	@echo "proving kerbcanopy, and building the library" >&2
 	@rt staticlib kerbcanopy >> target/library.log 2>&1 || { cat target/library.log >&2; exit 1; }
-	@touch $(ARCHIVE)
+	@touch -c $(ARCHIVE)
 
 # Built only where something is newer, so that a root without cargo can install what somebody else built.
 $(COMMAND): $(ARCHIVE) $(COMMANDED)

@@ -11,7 +11,10 @@ say() {
 run() {
     printf '> kerbcanopy %s\n' "$*"
     kerbcanopy "$@" 2>&1
-    [ $? -ne 2 ] || exit 1
+    case $? in
+        0 | 1 | 3) ;;
+        *) exit 1 ;;
+    esac
 }
 
 say "A rig's descriptor, and a record under it:"

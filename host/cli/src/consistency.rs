@@ -34,7 +34,11 @@ const ROUNDS: u64 = 1500;
 fn input(bytes: &[u8]) -> Input {
     let name = "file".to_string();
     let bytes = bytes.to_vec();
-    Input { name, bytes }
+    Input {
+        name,
+        bytes,
+        text: false,
+    }
 }
 
 /// Asks with `--json` and `--all`.

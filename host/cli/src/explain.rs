@@ -7,11 +7,12 @@ use kerbcanopy::Answer;
 
 use crate::content::{self, ELEMENTS};
 use crate::descriptor::Descriptor;
+use crate::facts;
 use crate::input::Input;
 use crate::json::Json;
 use crate::layout::{self, Field, Sort};
 use crate::refusal::{Lent, Refusal, answer_json};
-use crate::tokens::{self, Found, Order, Part};
+use crate::tokens::{self, Fault, Found, Order, Part};
 use crate::words::{counted, kind, quoted};
 
 /// One input, explained.
@@ -77,25 +78,28 @@ impl<'a> Section<'a> {
         (self.answer.number != 0).then_some(self.answer.place as usize)
     }
 
-    pub fn json(&self) -> Json {
-        let answer = match &self.refusal {
+    /// The answer, or the refusal.
+    pub fn answer_json(&self) -> Json {
+        match &self.refusal {
             Some(refusal) => refusal.json(),
             None => answer_json(self.answer).with([("file", Json::text(&self.file.name))]),
-        };
+        }
+    }
+
+    pub fn json(&self) -> Json {
         let fields = self.fields.iter().map(|field| {
             Json::object([
                 ("start", Json::size(field.bytes.start)),
                 ("length", Json::size(field.bytes.len())),
                 ("depth", Json::size(field.depth)),
-                (
-                    "sort",
-                    Json::text(format!("{:?}", field.sort).to_lowercase()),
-                ),
+                ("sort", Json::text(field.sort.word())),
                 ("text", Json::text(&field.text)),
             ])
         });
-        Json::object([("title", Json::text(self.title))])
-            .with([("answer", answer), ("fields", Json::list(fields))])
+        Json::object([("title", Json::text(self.title))]).with([
+            ("answer", self.answer_json()),
+            ("fields", Json::list(fields)),
+        ])
     }
 }
 
@@ -116,14 +120,9 @@ fn data_fields(types: &Descriptor, data: &[u8], answer: Answer, all: bool) -> Ve
     }
     let mut end = walked.end;
     if let Some(fault) = &walked.fault {
-        let start = end;
-        end = fault_end(types, fault.row, start, data.len(), answer);
-        fields.push(Field {
-            bytes: start..end,
-            depth: fault.path.len(),
-            sort: Sort::Fault,
-            text: format!("{}: refused", label(types, fault.row, &fault.path)),
-        });
+        let field = fault_field(types, data, fault, end, answer);
+        end = field.bytes.end;
+        fields.push(field);
     }
     if end < data.len() {
         let text = match answer.number {
@@ -138,6 +137,24 @@ fn data_fields(types: &Descriptor, data: &[u8], answer: Answer, all: bool) -> Ve
         });
     }
     fields
+}
+
+/// The piece at fault, which starts here, with the facts.
+fn fault_field(
+    types: &Descriptor,
+    data: &[u8],
+    fault: &Fault,
+    start: usize,
+    answer: Answer,
+) -> Field {
+    let Fault { row, path } = fault;
+    let facts = facts::of_piece(types, *row, data, start, answer.number, Order::Big);
+    Field {
+        bytes: start..fault_end(types, *row, start, data.len(), answer),
+        depth: path.len(),
+        sort: Sort::Fault,
+        text: format!("{}: refused, {facts}", label(types, *row, path)),
+    }
 }
 
 /// Where the bytes end that the refused piece was judged by: its number, its

@@ -50,7 +50,7 @@ fn usage(command: &Command) -> String {
         });
     }
     if command.steps {
-        words.push("STEP..".into());
+        words.push("[STEP..]".into());
     }
     for option in command.options {
         words.push(match *option {
@@ -63,85 +63,99 @@ fn usage(command: &Command) -> String {
     words.join(" ")
 }
 
-/// What a command does: a line, then what else there is to say.
-fn about(name: &str) -> &'static str {
-    match name {
-        "check" => {
-            "lists a descriptor's types, or says why it is none
+/// What each command does: a line, then what else there is to say.
+const ABOUT: [(&str, &str); 11] = [
+    (
+        "check",
+        "lists a descriptor's types, or says why it is none
 
 A line for each type, indented by its depth: what it is, its name, and where it
 stands in the descriptor. --table gives the table's rows instead, in its seven
 numbers; --all lists every item of an enumeration.
-"
-        }
-        "compare" => {
-            "says whether two descriptors are equal, reserved bytes apart
+",
+    ),
+    (
+        "compare",
+        "says whether two descriptors are equal, reserved bytes apart
 
 Where they differ, it says where first and how, and the exit status is 3.
-"
-        }
-        "normal" => {
-            "gives the descriptor with every reserved byte zero
+",
+    ),
+    (
+        "normal",
+        "gives the descriptor with every reserved byte zero
 
 As text; with -o as a file, raw or as text by its name, or raw on standard output
 where OUT is -. --room N lends so many bytes for it.
-"
-        }
-        "data" => {
-            "says whether data is accepted under a descriptor, and its pieces
+",
+    ),
+    (
+        "data",
+        "says whether data is accepted under a descriptor, and its pieces
 
 A piece is one number or Boolean, one whole string, or the sizes of one array.
-"
-        }
-        "dump" => {
-            "lists every value of accepted data with its path, name and type
+",
+    ),
+    (
+        "dump",
+        "lists every value of accepted data with its path, name and type
 
 The path stands first: the steps that value and view take. The first elements of
 an array are listed, or every one with --all.
-"
-        }
-        "explain" => {
-            "shows every byte of a descriptor, and of data, with what it is
+",
+    ),
+    (
+        "explain",
+        "shows every byte of a descriptor, and of data, with what it is
 
 For refused bytes it shows what was read before the refusal, and marks the place.
 --html gives a page for a browser, where pointing at bytes marks what they are;
 -o writes the page or the text to a file; --all cuts no array short.
-"
-        }
-        "value" => {
-            "gives the number that steps lead to
+",
+    ),
+    (
+        "value",
+        "gives the number that steps lead to
 
 A step is a member's number in a cluster, an element's in an array, counted from
 0, or a member's name where it is unique there. A name of digits alone, or one
 with other bytes than printable ASCII, is written in quotes as check shows it.
-"
-        }
-        "view" => {
-            "gives the bytes that steps lead to, length and size words included
+",
+    ),
+    (
+        "view",
+        "gives the bytes that steps lead to, length and size words included
 
 The steps are those of value. -o writes the bytes to a file.
-"
-        }
-        "little" => {
-            "gives the little-endian form of data
+",
+    ),
+    (
+        "little",
+        "gives the little-endian form of data
 
 As text, or with -o as for normal.
-"
-        }
-        "big" => {
-            "gives the data whose little-endian form is read
+",
+    ),
+    (
+        "big",
+        "gives the data whose little-endian form is read
 
 As text, or with -o as for normal.
-"
-        }
-        _ => {
-            "gives the members that a reader asks for, by name and type
+",
+    ),
+    (
+        "read",
+        "gives the members that a reader asks for, by name and type
 
 WRITER is the descriptor of the data, READER a cluster of the members wanted. Given
 are their bytes joined, in the reader's order: as text, or with -o as for normal.
-"
-        }
-    }
+",
+    ),
+];
+
+fn about(name: &str) -> &'static str {
+    let about = ABOUT.iter().find(|(command, _)| *command == name);
+    about.map_or("", |(_, words)| words)
 }
 
 #[cfg(test)]
@@ -151,6 +165,7 @@ mod tests {
     #[test]
     fn every_command_has_words_of_its_own() {
         let mut abouts: Vec<_> = COMMANDS.iter().map(|command| about(command.name)).collect();
+        assert!(!abouts.contains(&""));
         abouts.sort();
         abouts.dedup();
         assert_eq!(abouts.len(), COMMANDS.len());
@@ -171,7 +186,7 @@ mod tests {
         );
         assert_eq!(
             of("view"),
-            "kerbcanopy view DESCRIPTOR DATA STEP.. [-o OUT] [--hex] [--json]"
+            "kerbcanopy view DESCRIPTOR DATA [STEP..] [-o OUT] [--hex] [--json]"
         );
     }
 }

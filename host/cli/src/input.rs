@@ -4,7 +4,6 @@
 use std::ffi::OsStr;
 use std::fs::File;
 use std::io::{self, BufReader, Read};
-use std::path::Path;
 
 use crate::hexadecimal::Decoder;
 use crate::words::shown;
@@ -14,6 +13,8 @@ pub struct Input {
     /// The file's name, fit to be shown.
     pub name: String,
     pub bytes: Vec<u8>,
+    /// Whether it was read as hexadecimal text.
+    pub text: bool,
 }
 
 impl Input {
@@ -31,15 +32,29 @@ impl Input {
                 .map_err(|error| error.to_string())
                 .and_then(|file| read(file, hex, limit + 1)),
         };
-        let bytes = bytes.map_err(|trouble| format!("{name}: {trouble}"))?;
-        Ok(Input { name, bytes })
+        let bytes =
+            bytes.map_err(|trouble| format!("{name}: {trouble}{}", by_name(operand, &trouble)))?;
+        Ok(Input {
+            name,
+            bytes,
+            text: hex,
+        })
+    }
+}
+
+/// Why text was looked for, where that is what went wrong.
+fn by_name(operand: &OsStr, trouble: &str) -> &'static str {
+    match is_text(operand) && trouble.starts_with("line ") {
+        true => " (its name says that it is hexadecimal text)",
+        false => "",
     }
 }
 
 /// Whether the name says that the file holds hexadecimal text.
 pub fn is_text(name: &OsStr) -> bool {
-    let extension = Path::new(name).extension();
-    extension.is_some_and(|extension| extension.eq_ignore_ascii_case("hex"))
+    let name = name.as_encoded_bytes();
+    let ending = name.len().checked_sub(4).map(|at| &name[at..]);
+    ending.is_some_and(|ending| ending.eq_ignore_ascii_case(b".hex"))
 }
 
 /// At most `most` bytes.
@@ -79,10 +94,10 @@ mod tests {
 
     #[test]
     fn the_name_says_what_is_text() {
-        for name in ["a.hex", "a.HEX", "b/a.Hex", "a.b.hex"] {
+        for name in ["a.hex", "a.HEX", "b/a.Hex", "a.b.hex", ".hex"] {
             assert!(is_text(OsStr::new(name)), "{name}");
         }
-        for name in ["a", "hex", ".hex", "a.hex.bin", "a.hexa", "-"] {
+        for name in ["a", "hex", "a.hex.bin", "a.hexa", "-"] {
             assert!(!is_text(OsStr::new(name)), "{name}");
         }
     }

@@ -13,6 +13,7 @@ mod content;
 mod descriptor;
 mod difference;
 mod explain;
+mod facts;
 mod help;
 mod hexadecimal;
 mod input;

@@ -3,6 +3,7 @@
 use std::ffi::{OsStr, OsString};
 
 use crate::descriptor::Descriptor;
+use crate::facts;
 use crate::json::Json;
 use crate::words::{kind, quoted, shown};
 
@@ -25,7 +26,7 @@ pub fn row(descriptor: &Descriptor, path: &[u32]) -> Option<usize> {
 fn named<'a>(descriptor: &Descriptor<'a>, path: &[u32]) -> Vec<(u32, Option<&'a [u8]>)> {
     let name = |end: usize| {
         let row = row(descriptor, &path[..end])?;
-        let of = row_of_parent(descriptor, &path[..end])?;
+        let of = code_of_parent(descriptor, &path[..end])?;
         descriptor.name(row).filter(|_| of == 0x50)
     };
     let steps = path.iter().enumerate();
@@ -35,7 +36,7 @@ fn named<'a>(descriptor: &Descriptor<'a>, path: &[u32]) -> Vec<(u32, Option<&'a 
 }
 
 /// The code of the type that the last step was made in.
-fn row_of_parent(descriptor: &Descriptor, path: &[u32]) -> Option<u16> {
+fn code_of_parent(descriptor: &Descriptor, path: &[u32]) -> Option<u16> {
     let parent = row(descriptor, path.split_last()?.1)?;
     Some(descriptor.rows[parent].code)
 }
@@ -108,7 +109,10 @@ fn member(descriptor: &Descriptor, row: usize, step: &OsStr) -> Result<u32, Stri
         (Some((first, _)), Some((second, _))) => Err(format!(
             "the name {word} is that of several members, {first} and {second} among them: take the number"
         )),
-        (None, _) => Err(format!("no member has the name {word}")),
+        (None, _) => {
+            let names = facts::names(descriptor, row);
+            Err(format!("no member has the name {word}; there are {names}"))
+        }
     }
 }
 
@@ -175,8 +179,11 @@ mod tests {
     fn a_name_without_a_number_is_told() {
         let trouble = |steps: &[&str]| resolved(steps).expect_err("it is no step");
         assert!(trouble(&["t"]).contains("several members, 0 and 4"));
-        assert_eq!(trouble(&["b"]), "no member has the name b");
-        assert_eq!(trouble(&[""]), "no member has the name ");
+        let names = r#""t", "7", "\xE9", "a", "t""#;
+        for step in ["b", ""] {
+            let expected = format!("no member has the name {step}; there are {names}");
+            assert_eq!(trouble(&[step]), expected);
+        }
         assert!(trouble(&["a", "e"]).contains("no element's number"));
         assert!(trouble(&["\"a"]).contains("no name in quotes"));
         assert!(trouble(&["\"a\"b"]).contains("no name in quotes"));

@@ -7,6 +7,8 @@ use kerbcanopy::{Answer, meaning};
 
 use crate::descriptor::Descriptor;
 use crate::difference;
+use crate::facts;
+use crate::hexadecimal::Decoder;
 use crate::input::Input;
 use crate::json::Json;
 use crate::layout;
@@ -76,6 +78,8 @@ pub struct Refusal {
     input: &'static str,
     /// What stands at the place.
     there: String,
+    /// What was judged, in figures.
+    facts: String,
     /// The path of the member that the place falls in.
     path: Vec<u32>,
     path_words: String,
@@ -91,14 +95,25 @@ impl Refusal {
             file: file.name.clone(),
             input,
             there: around(&file.bytes, answer.place as usize),
+            facts: String::new(),
             path: Vec::new(),
             path_words: String::new(),
             names: Json::list([]),
         };
         match answer.number {
-            1..=12 => refusal.falls_in(layout::of(&file.bytes, answer).path, None),
-            50 => refusal.there = format!("room for {}", counted(lent.room, "byte")),
+            1..=12 => {
+                let layout = layout::of(&file.bytes, answer);
+                refusal.facts = layout.facts;
+                refusal.falls_in(layout.path, None);
+            }
+            50 => {
+                refusal.there = format!("room for {}", counted(lent.room, "byte"));
+                refusal.facts = format!("{} needed", counted(answer.place as usize, "byte"));
+            }
             _ => refusal.under_types(lent),
+        }
+        if (1..=3).contains(&answer.input) && !file.text && looks_like_text(&file.bytes) {
+            refusal.facts += "; it looks like hexadecimal text, which --hex reads";
         }
         refusal
     }
@@ -111,9 +126,7 @@ impl Refusal {
         match self.answer.number {
             20..=25 => {
                 let data = lent.data.map_or(&[][..], |data| &data.bytes);
-                let walked = tokens::walk(&first, data, self.answer, lent.order, 0);
-                let path = walked.fault.map(|fault| fault.path);
-                self.falls_in(path.unwrap_or_default(), Some(&first));
+                self.of_data(&first, data, lent.order);
             }
             30 | 31 => {
                 let reached = match self.answer.number {
@@ -135,6 +148,18 @@ impl Refusal {
         }
     }
 
+    /// 20 to 25: the piece at fault, or the bytes behind the last.
+    fn of_data(&mut self, types: &Descriptor, data: &[u8], order: Order) {
+        let Answer { number, place, .. } = self.answer;
+        let walked = tokens::walk(types, data, self.answer, order, 0);
+        if let Some(fault) = walked.fault {
+            self.facts = facts::of_piece(types, fault.row, data, place as usize, number, order);
+            self.falls_in(fault.path, Some(types));
+        } else if number == 25 {
+            self.facts = format!("{} left", counted(data.len() - walked.end, "byte"));
+        }
+    }
+
     /// 40 and 42 to 44: the reader's member whose number is the place, and what
     /// the writer has instead.
     fn of_member(&mut self, writer: &Descriptor, reader: &Descriptor) {
@@ -148,9 +173,15 @@ impl Refusal {
         };
         self.falls_in(vec![self.answer.place], Some(reader));
         self.there = named_kind(reader, member);
-        if self.answer.number == 44 {
-            self.there += &instead(writer, reader, member).unwrap_or_default();
-        }
+        self.facts = match self.answer.number {
+            42 => format!("the writer has {}", facts::names(writer, 0)),
+            43 => {
+                let same = facts::namesakes(writer, reader.name(member));
+                format!("the writer's members {same} have it")
+            }
+            44 => instead(writer, reader, member).unwrap_or_default(),
+            _ => String::new(),
+        };
     }
 
     fn falls_in(&mut self, path: Vec<u32>, descriptor: Option<&Descriptor>) {
@@ -181,12 +212,21 @@ impl Refusal {
             words => format!("; in {words}"),
         };
         format!(
-            "{}: refused with {number}: {} (input {input}, {}; place {place}{within}): {}",
+            "{}: refused with {number}: {} (input {input}, {}; place {place}{within}): {}{}",
             self.file,
             meaning(number),
             self.input,
             self.there,
+            self.facts(),
         )
+    }
+
+    /// What was judged, behind something else.
+    fn facts(&self) -> String {
+        match self.facts.trim_start_matches("; ") {
+            "" => String::new(),
+            facts => format!("; {facts}"),
+        }
     }
 
     pub fn json(&self) -> Json {
@@ -196,6 +236,7 @@ impl Refusal {
             ("path", path::numbers(&self.path)),
             ("names", self.names.clone()),
             ("there", Json::text(&self.there)),
+            ("facts", Json::text(self.facts.trim_start_matches("; "))),
         ])
     }
 
@@ -235,9 +276,16 @@ fn instead(writer: &Descriptor, reader: &Descriptor, member: usize) -> Option<St
         format!(" in {at}")
     };
     Some(format!(
-        "; first difference{within}: {} is {} here and {} in the writer",
+        "first difference{within}: {} is {} here and {} in the writer",
         found.what, found.first.text, found.second.text
     ))
+}
+
+/// Whether bytes that were taken as they are could be read as hexadecimal text.
+fn looks_like_text(bytes: &[u8]) -> bool {
+    let mut decoder = Decoder::default();
+    let read = bytes.iter().try_for_each(|&byte| decoder.push(byte));
+    read.is_ok() && !decoder.bytes.is_empty()
 }
 
 /// The steps, the one that leads nowhere in brackets.

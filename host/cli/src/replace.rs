@@ -15,7 +15,12 @@ pub fn write(target: &Path, bytes: &[u8]) -> io::Result<()> {
             let mut file = OpenOptions::new().write(true).open(&target)?;
             file.write_all(bytes)
         }
-        old => replace(&target, old.ok(), bytes),
+        Ok(old) => {
+            // A file that may not be written to is not to be replaced either.
+            OpenOptions::new().write(true).open(&target)?;
+            replace(&target, Some(old), bytes)
+        }
+        Err(_) => replace(&target, None, bytes),
     }
 }
 

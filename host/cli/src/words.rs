@@ -25,7 +25,7 @@ pub fn code(code: u16) -> String {
         0x30 => "string".into(),
         0x40 => "array".into(),
         0x50 => "cluster".into(),
-        code => format!("code {code:02X}"),
+        _ => "no type that is read here".into(),
     }
 }
 
@@ -143,11 +143,10 @@ mod tests {
         let carried = (0x01..=0x0E).chain(0x15..=0x17).chain(0x19..=0x1E);
         let carried = carried.chain([0x21, 0x30, 0x40, 0x50]);
         let mut words: Vec<_> = carried.map(code).collect();
-        assert!(words.iter().all(|words| !words.starts_with("code")));
+        assert!(!words.contains(&code(0x32)));
         words.sort();
         words.dedup();
         assert_eq!(words.len(), 27);
-        assert_eq!(code(0x32), "code 32");
     }
 
     #[test]

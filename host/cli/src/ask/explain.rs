@@ -17,29 +17,43 @@ pub fn explain(request: &Request) -> Result<Outcome, String> {
     if let (Some(data), None) = (request.files.get(1), &sections[0].refusal) {
         sections.push(Section::data(descriptor, data, all));
     }
-    let answer = match (request.options.json, request.options.html) {
-        (true, _) => {
-            Json::object([("sections", Json::list(sections.iter().map(Section::json)))]).line()
-        }
-        (_, true) => page::of(&sections),
-        _ => text::of(&sections, all, coloured(request)),
-    };
+    let answer = shape(request, &sections);
+    let refusal = sections.iter().find_map(|section| section.refusal.as_ref());
     let answer = match request.options.out.as_deref() {
-        None => answer,
-        Some(out) if out == "-" => answer,
-        Some(out) => {
+        Some(out) if out != "-" => {
             output::save(out, answer.as_bytes())?;
             match request.options.json {
-                true => Json::object([("out", Json::text(shown(out)))]).line(),
+                true => verdict(&sections)
+                    .with([("out", Json::text(shown(out)))])
+                    .line(),
                 false => format!("{}: written\n", shown(out)),
             }
         }
+        _ => answer,
     };
-    let refusal = sections.iter().find_map(|section| section.refusal.as_ref());
     Ok(match refusal {
         None => Outcome::accepted(answer),
         Some(refusal) => Outcome::refused(answer, refusal.line()),
     })
+}
+
+/// The explanation in the form that is asked for.
+fn shape(request: &Request, sections: &[Section]) -> String {
+    match (request.options.json, request.options.html) {
+        (true, _) => {
+            let listed = Json::list(sections.iter().map(Section::json));
+            verdict(sections).with([("sections", listed)]).line()
+        }
+        (_, true) => page::of(sections),
+        _ => text::of(sections, request.options.all, coloured(request)),
+    }
+}
+
+/// The answer to the last question that was asked: about the data, or about a
+/// descriptor that is refused or alone.
+fn verdict(sections: &[Section]) -> Json {
+    let last = sections.last().map(Section::answer_json);
+    last.unwrap_or(Json::Null)
 }
 
 /// Colours are for a terminal that can show them, and for who wants them.

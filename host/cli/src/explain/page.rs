@@ -96,8 +96,12 @@ fn fields(section: &Section, number: usize) -> String {
 }
 
 fn class(field: &Field, place: bool) -> String {
-    let sort = format!("{:?}", field.sort).to_lowercase();
-    if place { format!("{sort} place") } else { sort }
+    let sort = field.sort.word();
+    if place {
+        format!("{sort} place")
+    } else {
+        sort.into()
+    }
 }
 
 /// Text that can't be taken for anything but text.

@@ -46,14 +46,19 @@ impl Lines<'_> {
         if field.bytes.is_empty() {
             *text += &format!("{:MEANING$}{says}\n", "");
         }
-        let shown = match self.all {
+        // Of an input that is too long not all was read.
+        let cut = matches!(self.section.answer.number, 1 | 20);
+        let shown = match self.all && !cut {
             true => usize::MAX,
             false => LINES * BYTES,
         };
         for at in field.bytes.clone().step_by(BYTES) {
             if at - field.bytes.start >= shown {
-                let more = field.bytes.end - at;
-                *text += &format!("{:FIRST$}.. {more} more\n", "");
+                let more = match cut {
+                    true => "and more".into(),
+                    false => format!("{} more", field.bytes.end - at),
+                };
+                *text += &format!("{:FIRST$}.. {more}\n", "");
                 break;
             }
             let end = field.bytes.end.min(at + BYTES);

@@ -123,7 +123,7 @@ fn a_dash_is_standard_input() {
     let refused = folder.feed(&["check", "-"], b"");
     refused.refuses(
         "standard input: refused with 2: fewer than 4 bytes are left where a descriptor should \
-         start (input 1, the descriptor; place 0): [end]",
+         start (input 1, the descriptor; place 0): [end]; 0 bytes left",
     );
 }
 
@@ -153,7 +153,7 @@ fn standard_input_is_read_once() {
             &["value", "rig.hex", "-", "-", "--hex"],
             &sample("data/rig.hex"),
         )
-        .troubles("rig.hex: no member has the name -");
+        .troubles("rig.hex: no member has the name -; there are \"t\", \"id\"");
 }
 
 #[test]

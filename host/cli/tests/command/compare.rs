@@ -163,7 +163,7 @@ fn the_file_at_fault_is_named() {
     let names = ["rig.hex", "rig-cut.hex"];
     let folder = Folder::with_samples("compare-refused", &names);
     let meaning = "the size is odd, under 4, or runs past the end of what it stands in";
-    let there = "[00] 14 00 50 00 02 00 06 00 ..";
+    let there = "[00] 14 00 50 00 02 00 06 00 ..; size 20, 16 bytes there";
     folder.run(&["compare", "rig.hex", "rig-cut.hex"]).refuses(&format!(
         "rig-cut.hex: refused with 4: {meaning} (input 2, the second descriptor; place 0): {there}"
     ));

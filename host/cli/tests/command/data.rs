@@ -1,6 +1,6 @@
 //! `data`, `little` and `big`: data under a descriptor, and its byte order.
 
-use crate::common::descriptors::{array, cluster, descriptor, string};
+use crate::common::descriptors::{array, cluster, descriptor, enumeration, string};
 use crate::common::{Folder, hex};
 
 #[test]
@@ -65,10 +65,40 @@ fn little_endian_data_is_refused_where_its_words_are() {
     folder.put("data", &hex("01000000 61 02"));
     folder.run(&["big", "types", "data"]).refuses(
         "data: refused with 24: the Boolean is neither 0 nor 1 \
-         (input 3, the data; place 5; in 1): 01 00 00 00 61 [02]",
+         (input 3, the data; place 5; in 1): 01 00 00 00 61 [02]; byte 02",
     );
     folder.run(&["little", "types", "data"]).refuses(
         "data: refused with 21: the data ends inside this piece \
-         (input 3, the data; place 0; in 0): [01] 00 00 00 61 02",
+         (input 3, the data; place 0; in 0): [01] 00 00 00 61 02; \
+         length 16777216, 2 bytes behind it",
     );
+}
+
+#[test]
+fn the_facts_of_little_endian_data_are_read_reversed() {
+    let folder = Folder::new("data-little-facts");
+    let types = [
+        string(),
+        array(2, &descriptor(0x07, &[])),
+        enumeration(0x16, &[b"on", b"off"]),
+    ];
+    folder.put("types", &cluster(&types));
+    for (data, refused) in [
+        ("0100", "21 4 bytes needed, 2 left"),
+        ("09010000 6162", "21 length 265, 2 bytes behind it"),
+        ("01000080", "22 length 2147483649"),
+        ("00000000 010000", "21 8 bytes needed, 3 left"),
+        ("00000000 02000000 010000FF", "22 sizes 2 x 4278190081"),
+        ("00000000 01000000 01000000 07", "21 4 bytes needed, 1 left"),
+        (
+            "00000000 00000000 00000000 0201",
+            "23 number 258 of 2 items",
+        ),
+        ("00000000 00000000 00000000 0100 AB", "25 1 byte left"),
+    ] {
+        folder.put("data", &hex(data));
+        let json = folder.run(&["big", "types", "data", "--json"]).json();
+        let seen = format!("{} {}", json.at("number").number(), json.at("facts").text());
+        assert_eq!(seen, refused, "{data}");
+    }
 }

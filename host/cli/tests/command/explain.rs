@@ -157,7 +157,8 @@ fn refused_data_is_read_up_to_its_place() {
         "5 bytes, refused with 21
                                         cluster of 2 members
     0  0000  00 19                        0 \"t\" signed 16-bit integer = 25
-    2  0002 [00]00 00                     1 \"id\" unsigned 32-bit integer: refused
+    2  0002 [00]00 00                     1 \"id\" unsigned 32-bit integer: refused, \
+         4 bytes needed, 3 left
              ^                          refused with 21: the data ends inside this piece
 "
     );
@@ -165,7 +166,7 @@ fn refused_data_is_read_up_to_its_place() {
     assert_eq!(
         ran.complaint(),
         "data-rig-cut.hex: refused with 21: the data ends inside this piece \
-         (input 3, the data; place 2; in 1 \"id\"): 00 19 [00] 00 00"
+         (input 3, the data; place 2; in 1 \"id\"): 00 19 [00] 00 00; 4 bytes needed, 3 left"
     );
 }
 
@@ -176,7 +177,7 @@ fn a_place_at_the_end_is_marked() {
     folder.put("none", b"");
     let ran = folder.run(&["explain", "rig.hex", "data"]);
     let end = "\
-                                          1 \"id\" unsigned 32-bit integer: refused
+                                          1 \"id\" unsigned 32-bit integer: refused, 4 bytes needed, 0 left
     2  0002  [end]                      refused with 21: the data ends inside this piece
 ";
     assert!(ran.text().ends_with(end), "{}", ran.text());
@@ -202,11 +203,84 @@ fn an_element_far_behind_is_shown_where_it_is_at_fault() {
     let tail = "\
    11  000B  01                           7 Boolean = true
    12  000C  01 01 01 01 01 01 01         .. 7 more elements
-   19  0013 [09]                          15 Boolean: refused
+   19  0013 [09]                          15 Boolean: refused, byte 09
              ^                          refused with 24: the Boolean is neither 0 nor 1
    20  0014  01 01 01 01                not read
 ";
     assert!(ran.text().ends_with(tail), "{}", ran.text());
+}
+
+#[test]
+fn a_damaged_length_is_told() {
+    let folder = Folder::new("explain-length");
+    let types = cluster(&[descriptor(0x05, &[]), named(string(), b"note")]);
+    folder.put("types", &types);
+    for (data, expected) in [
+        (
+            "07 00000009 616263",
+            "data: 8 bytes, refused with 21
+                                        cluster of 2 members
+    0  0000  07                           0 unsigned 8-bit integer = 7
+    1  0001 [00]00 00 09 61 62 63         1 \"note\" string: refused, length 9, 3 bytes behind it
+             ^                          refused with 21: the data ends inside this piece
+",
+        ),
+        (
+            "07 80000003 616263",
+            "data: 8 bytes, refused with 22
+                                        cluster of 2 members
+    0  0000  07                           0 unsigned 8-bit integer = 7
+    1  0001 [80]00 00 03                  1 \"note\" string: refused, length 2147483651
+             ^                          refused with 22: a length or size is 2147483648 or more
+    5  0005  61 62 63                   not read
+",
+        ),
+    ] {
+        folder.put("data", &hex(data));
+        let ran = folder.run(&["explain", "types", "data"]);
+        assert!(ran.text().ends_with(expected), "{}", ran.text());
+        assert_eq!(ran.status, 1);
+    }
+}
+
+#[test]
+fn an_input_that_is_too_long_has_more() {
+    let folder = Folder::new("explain-long");
+    folder.put("types", &descriptor(0x05, &[]));
+    folder.put("long", &[0; 70000]);
+    let expected = |refused: &str, meaning: &str| {
+        format!(
+            "long: {refused}
+    0  0000 [00]00 00 00 00 00 00 00    not read
+             ^                          {refused}: {meaning}
+    8  0008  00 00 00 00 00 00 00 00
+   16  0010  00 00 00 00 00 00 00 00
+   24  0018  00 00 00 00 00 00 00 00
+             .. and more
+"
+        )
+    };
+    let ran = folder.run(&["explain", "long"]);
+    let meaning = "the descriptor has more than 4,096 bytes";
+    assert_eq!(ran.text(), expected("refused with 1", meaning));
+    assert_eq!(ran.status, 1);
+    let ran = folder.run(&["explain", "types", "long"]);
+    let meaning = "the data has more than 65,536 bytes";
+    let data = expected("refused with 20", meaning);
+    assert!(ran.text().ends_with(&data), "{}", ran.text());
+    assert_eq!(ran.status, 1);
+}
+
+#[test]
+fn a_code_that_is_not_read_is_told() {
+    let folder = Folder::new("explain-code");
+    folder.put("types", &cluster(&[descriptor(0x37, &[])]));
+    let ran = folder.run(&["explain", "types"]);
+    let tail = "\
+    9  0009  37                           code 37, no type that is read here
+";
+    assert!(ran.text().ends_with(tail), "{}", ran.text());
+    assert_eq!(ran.status, 1);
 }
 
 #[test]

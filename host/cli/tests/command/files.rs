@@ -99,6 +99,9 @@ fn a_file_that_this_user_may_not_read() {
     }
 }
 
+/// Behind trouble with a file's text.
+const BY_NAME: &str = " (its name says that it is hexadecimal text)";
+
 #[test]
 fn text_that_is_not_hexadecimal() {
     let folder = folder("files-text");
@@ -124,10 +127,62 @@ fn text_that_is_not_hexadecimal() {
         folder.put("t.hex", text);
         folder
             .run(&["check", "t.hex"])
-            .troubles(&format!("t.hex: {trouble}"));
+            .troubles(&format!("t.hex: {trouble}{BY_NAME}"));
+        // By the option it is looked for whatever the name.
+        folder.put("t", text);
+        folder
+            .run(&["check", "t", "--hex"])
+            .troubles(&format!("t: {trouble}"));
     }
     folder.put("t.hex", b"0004 0003#\x1B\xFF no matter\n#");
     assert_eq!(folder.run(&["check", "t.hex"]).status, 0);
+}
+
+#[test]
+fn raw_bytes_in_a_file_of_text() {
+    let folder = folder("files-raw");
+    folder.put("rig.hex", &descriptor(0x03, &[]));
+    folder.run(&["check", "rig.hex"]).troubles(&format!(
+        "rig.hex: line 1: '\\x00' is no hexadecimal digit{BY_NAME}"
+    ));
+    let ran = folder.run(&["data", "good", "rig.hex", "--json"]);
+    let trouble = ran.json().at("trouble").text().to_string();
+    assert!(trouble.ends_with(BY_NAME), "{trouble}");
+    assert_eq!(ran.status, 2);
+    // What is wrong is not its text.
+    folder
+        .run(&["check", "none.hex"])
+        .troubles("none.hex: No such file or directory (os error 2)");
+}
+
+#[test]
+fn text_in_a_file_of_raw_bytes() {
+    let folder = folder("files-hint");
+    let hint = "it looks like hexadecimal text, which --hex reads";
+    folder.put("text", b"0004 0003 # an integer\n");
+    folder.run(&["check", "text"]).refuses(&format!(
+        "text: refused with 4: the size is odd, under 4, or runs past the end of what it stands \
+         in (input 1, the descriptor; place 0): [30] 30 30 34 20 30 30 30 33 ..; \
+         size 12336, 23 bytes there; {hint}"
+    ));
+    let facts = |words: &[&str]| {
+        let ran = folder.run(&[words, &["--json"]].concat());
+        assert_eq!(ran.status, 1, "{words:?}");
+        ran.json().at("facts").text().to_string()
+    };
+    let all = format!("size 12336, 23 bytes there; {hint}");
+    assert_eq!(facts(&["compare", "good", "text"]), all);
+    folder.put("data", b"00000009");
+    let all = format!("4 bytes left; {hint}");
+    assert_eq!(facts(&["data", "good", "data"]), all);
+    folder.put("data", &[b'0'; 65537]);
+    assert_eq!(facts(&["data", "good", "data"]), hint);
+    // Half a byte, another character, or nothing but spaces and comments.
+    for bytes in [&b"0 0"[..], b"0000000g", b" \n#00", b""] {
+        folder.put("data", bytes);
+        let facts = facts(&["data", "good", "data"]);
+        assert!(!facts.contains(hint), "{bytes:?}: {facts}");
+    }
 }
 
 /// Names that can't be shown as they are, and how they are shown.

@@ -218,7 +218,8 @@ fn every_part_of_a_dump() {
 fn the_sections_of_an_explanation() {
     let folder = rig("json-explain");
     let one = concat!(
-        r#"{"sections":[{"title":"descriptor","answer":{"number":0,"input":0,"place":1,"file":"i"},"#,
+        r#"{"number":0,"input":0,"place":1,"file":"i","#,
+        r#""sections":[{"title":"descriptor","answer":{"number":0,"input":0,"place":1,"file":"i"},"#,
         r#""fields":[{"start":0,"length":2,"depth":0,"sort":"size","text":"size 4"},"#,
         r#"{"start":2,"length":1,"depth":0,"sort":"reserved","text":"reserved"},"#,
         r#"{"start":3,"length":1,"depth":0,"sort":"code","text":"code 03, signed 32-bit integer"}]}]}"#,
@@ -233,6 +234,7 @@ fn the_sections_of_an_explanation() {
     let answer = data.at("answer");
     let refused = folder.run(&["data", "rig.hex", "short", "--json"]).json();
     assert_eq!(answer, &refused);
+    assert_eq!(json.at("facts"), refused.at("facts"));
     let last = data
         .at("fields")
         .list()
@@ -253,9 +255,14 @@ fn an_explanation_in_a_file() {
     gives(
         &folder,
         &["explain", "rig.hex", "-o", "e.json"],
-        r#"{"out":"e.json"}"#,
+        r#"{"number":0,"input":0,"place":3,"file":"rig.hex","out":"e.json"}"#,
     );
     assert_eq!(folder.read("e.json"), shown.out);
+    folder.put("short", &hex("0019"));
+    let words = ["explain", "rig.hex", "short", "-o", "e.json", "--json"];
+    let json = folder.run(&words).json();
+    assert_eq!(json.at("number").number(), 21);
+    assert_eq!(json.at("out"), &Json::Text("e.json".into()));
 }
 
 #[test]

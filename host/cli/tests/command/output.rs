@@ -30,7 +30,7 @@ fn the_name_of_a_file_says_its_kind() {
         .run(&["normal", "rig-reserved.hex", "-o", "out.bin"])
         .gives("out.bin: 20 bytes written\n");
     assert_eq!(folder.read("out.bin"), bytes);
-    for name in ["out.hex", "out.HEX", "out.Hex"] {
+    for name in ["out.hex", "out.HEX", "out.Hex", ".hex"] {
         let written = format!("{name}: 20 bytes written\n");
         folder
             .run(&["normal", "rig-reserved.hex", "-o", name])
@@ -39,7 +39,7 @@ fn the_name_of_a_file_says_its_kind() {
         folder.run(&["compare", "rig.hex", name]).gives("equal\n");
     }
     // These names have no such ending.
-    for name in [".hex", "hex", "out.hex.bin"] {
+    for name in ["hex", "out.hex.bin", "out.hexa"] {
         assert_eq!(
             folder
                 .run(&["normal", "rig-reserved.hex", "-o", name])
@@ -97,6 +97,6 @@ fn the_room_of_the_normal_form() {
         .gives(NORMAL);
     folder.run(&["normal", "rig.hex", "--room", "19"]).refuses(
         "rig.hex: refused with 50: the output is too small \
-         (input 4, the request; place 20): room for 19 bytes",
+         (input 4, the request; place 20): room for 19 bytes; 20 bytes needed",
     );
 }

@@ -88,7 +88,7 @@ fn a_damaged_record_leaves_the_one_before() {
     read("data-rig.hex").gives("record: 4 bytes written\n");
     read("data-rig-cut.hex").refuses(
         "data-rig-cut.hex: refused with 21: the data ends inside this piece \
-         (input 3, the data; place 2; in 1 \"id\"): 00 19 [00] 00 00",
+         (input 3, the data; place 2; in 1 \"id\"): 00 19 [00] 00 00; 4 bytes needed, 3 left",
     );
     assert_eq!(folder.read("record"), [0, 0, 0, 9]);
 }
@@ -112,7 +112,7 @@ fn the_room_is_what_is_lent() {
     for (room, bytes) in [("3", "3 bytes"), ("1", "1 byte"), ("0", "0 bytes")] {
         read(room).refuses(&format!(
             "data-rig.hex: refused with 50: the output is too small \
-             (input 4, the request; place 4): room for {bytes}"
+             (input 4, the request; place 4): room for {bytes}; 4 bytes needed"
         ));
     }
 }

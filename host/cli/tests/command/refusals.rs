@@ -20,6 +20,7 @@ struct Refused<'a> {
     place: usize,
     path: Path<'a>,
     there: &'a str,
+    facts: &'a str,
 }
 
 impl Refused<'_> {
@@ -33,8 +34,12 @@ impl Refused<'_> {
             [] => String::new(),
             steps => format!("; in {}", steps.join(", ")),
         };
+        let facts = match self.facts {
+            "" => String::new(),
+            facts => format!("; {facts}"),
+        };
         format!(
-            "{}: refused with {}: {} (input {}, {}; place {}{within}): {}",
+            "{}: refused with {}: {} (input {}, {}; place {}{within}): {}{facts}",
             self.file,
             self.number,
             meaning(self.number),
@@ -62,6 +67,7 @@ impl Refused<'_> {
             ("path", Json::List(path.collect())),
             ("names", Json::List(names.collect())),
             ("there", text(self.there)),
+            ("facts", text(self.facts)),
         ];
         Json::Object(fields.map(|(name, value)| (name.to_string(), value)).into())
     }
@@ -124,5 +130,6 @@ fn request(number: u32, place: usize) -> Refused<'static> {
         place,
         path: &[],
         there: "",
+        facts: "",
     }
 }

@@ -1,6 +1,6 @@
 //! `-o`: the old file is as it was until the new one is whole.
 
-use std::fs;
+use std::fs::{self, OpenOptions};
 use std::os::unix::fs::{MetadataExt, PermissionsExt, symlink};
 
 use crate::common::descriptors::{cluster, descriptor};
@@ -109,7 +109,7 @@ fn a_link_to_nothing_yet_stays_too() {
 fn permissions_are_kept() {
     let folder = folder("replace-mode");
     folder.put("out", b"old");
-    for kept in [0o600, 0o640, 0o755, 0o444] {
+    for kept in [0o600, 0o640, 0o755] {
         fs::set_permissions(folder.path.join("out"), PermissionsExt::from_mode(kept))
             .expect("it is ours");
         folder
@@ -151,6 +151,30 @@ fn a_target_that_can_t_be_written() {
     }
     assert_eq!(folder.read("file"), b"as it was");
     assert_eq!(folder.names(), ["bad", "file", "types"]);
+}
+
+#[test]
+fn a_file_that_may_not_be_written_to() {
+    let folder = folder("replace-protected");
+    folder.put("out", b"as it was");
+    let path = folder.path.join("out");
+    fs::set_permissions(&path, PermissionsExt::from_mode(0o444)).expect("it is ours");
+    // Root writes to it all the same.
+    let allowed = OpenOptions::new().write(true).open(&path).is_ok();
+    for (words, written) in [
+        (["explain", "types", "-o", "out"], "out: written\n"),
+        (["normal", "types", "-o", "out"], "out: 4 bytes written\n"),
+    ] {
+        let ran = folder.run(&words);
+        match allowed {
+            true => ran.gives(written),
+            false => ran.troubles("out: Permission denied (os error 13)"),
+        }
+    }
+    let expected = if allowed { &NORMAL[..] } else { b"as it was" };
+    assert_eq!(folder.read("out"), expected);
+    assert_eq!(mode(&folder, "out"), 0o444);
+    assert_eq!(folder.names(), ["bad", "out", "types"]);
 }
 
 #[test]

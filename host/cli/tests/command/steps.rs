@@ -91,6 +91,10 @@ fn a_view_goes_to_a_file() {
     );
 }
 
+/// The names of [`odd`], as they are listed.
+const ODD: &str =
+    r#""twice", "twice", "7", "\xE9", "a\"b\\", "", "--all", "\x1B", "list", one without a name"#;
+
 /// A cluster with names that can't be taken as they are.
 fn odd(test: &str) -> Folder {
     let number = |name: &[u8]| named(descriptor(0x05, &[]), name);
@@ -141,13 +145,14 @@ fn odd_names_are_written_in_quotes_or_behind_dashes() {
 #[test]
 fn a_name_that_leads_to_no_member_is_trouble() {
     let folder = odd("steps-no-name");
+    let none = |name| format!("types: no member has the name {name}; there are {ODD}");
     for (steps, line) in [
         (
             &["twice"][..],
             "types: the name twice is that of several members, 0 and 1 among them: take the number",
         ),
-        (&["nine"], "types: no member has the name nine"),
-        (&["é\u{1b}"], "types: no member has the name é\\x1B"),
+        (&["nine"], &none("nine")),
+        (&["é\u{1b}"], &none("é\\x1B")),
         (
             &["list", "e"],
             "types: e is no element's number, and this is an array of 1 dimension",

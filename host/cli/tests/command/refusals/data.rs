@@ -4,9 +4,16 @@ use super::{Path, Refused, request};
 use crate::common::descriptors::{array, cluster, descriptor, enumeration, named, string};
 use crate::common::{Folder, hex};
 
-/// Data refused under a descriptor with this number at this place, on this path.
+/// Data refused under a descriptor with this number at this place, on this path,
+/// with what stands there and the facts.
 #[track_caller]
-fn data_is_refused(test: &str, files: [&[u8]; 2], number: u32, at: (usize, Path), there: &str) {
+fn data_is_refused(
+    test: &str,
+    files: [&[u8]; 2],
+    number: u32,
+    at: (usize, Path),
+    [there, facts]: [&str; 2],
+) {
     let folder = Folder::new(test);
     folder.put("types", files[0]);
     folder.put("data", files[1]);
@@ -18,6 +25,7 @@ fn data_is_refused(test: &str, files: [&[u8]; 2], number: u32, at: (usize, Path)
         place: at.0,
         path: at.1,
         there,
+        facts,
     };
     for command in ["data", "dump", "value", "view", "little"] {
         refused.by(&folder, &[command, "types", "data"]);
@@ -28,7 +36,13 @@ fn data_is_refused(test: &str, files: [&[u8]; 2], number: u32, at: (usize, Path)
 fn numbers_20_and_21() {
     let byte = descriptor(0x05, &[]);
     let zeros = "[00] 00 00 00 00 00 00 00 00 ..";
-    data_is_refused("refused-20", [&byte, &[0; 65537]], 20, (0, &[]), zeros);
+    data_is_refused(
+        "refused-20",
+        [&byte, &[0; 65537]],
+        20,
+        (0, &[]),
+        [zeros, ""],
+    );
     let note = cluster(&[byte.clone(), named(string(), b"no\x1Bte")]);
     let cut = hex("07 00000004 616263");
     let path: Path = &[(1, Some("no\u{1b}te"))];
@@ -45,6 +59,7 @@ fn numbers_20_and_21() {
         place: 1,
         path,
         there: "07 [00] 00 00 04 61 62 63",
+        facts: "length 4, 3 bytes behind it",
     };
     assert_eq!(ran.json(), refused.json());
     assert_eq!(
@@ -63,22 +78,23 @@ fn numbers_22_to_25() {
     let list = named(cluster(&[named(array(2, &byte), b"list")]), b"top");
     let sizes = hex("00000001 80000000");
     let path: Path = &[(0, Some("list"))];
-    let there = "[00] 00 00 01 80 00 00 00";
+    let there = ["[00] 00 00 01 80 00 00 00", "sizes 1 x 2147483648"];
     data_is_refused("refused-22", [&list, &sizes], 22, (0, path), there);
     let modes = array(1, &cluster(&[named(enumeration(0x16, &[b"on"]), b"mode")]));
     let third = hex("00000003 0000 0000 0001");
     let path: Path = &[(2, None), (0, Some("mode"))];
-    let there = "00 00 00 03 00 00 00 00 [00] 01";
+    let there = ["00 00 00 03 00 00 00 00 [00] 01", "number 1 of 1 item"];
     data_is_refused("refused-23", [&modes, &third], 23, (8, path), there);
     let flag = descriptor(0x21, &[]);
-    data_is_refused("refused-24", [&flag, &[2]], 24, (0, &[]), "[02]");
     data_is_refused(
-        "refused-25",
-        [&flag, &[1, 2, 3]],
-        25,
-        (1, &[]),
-        "01 [02] 03",
+        "refused-24",
+        [&flag, &[2]],
+        24,
+        (0, &[]),
+        ["[02]", "byte 02"],
     );
+    let there = ["01 [02] 03", "2 bytes left"];
+    data_is_refused("refused-25", [&flag, &[1, 2, 3]], 25, (1, &[]), there);
 }
 
 #[test]

@@ -14,6 +14,7 @@ fn member(number: u32, place: usize) -> Refused<'static> {
         place,
         path: &[],
         there: "",
+        facts: "",
     }
 }
 
@@ -90,6 +91,7 @@ fn numbers_42_and_43() {
     let refused = Refused {
         path,
         there,
+        facts: "the writer has \"no\"",
         ..member(42, 0)
     };
     refused.by(&record("refused-42", &none, &one, 4), &READ);
@@ -97,6 +99,7 @@ fn numbers_42_and_43() {
     let refused = Refused {
         path,
         there,
+        facts: "the writer's members 0, 1 have it",
         ..member(43, 0)
     };
     refused.by(&record("refused-43", &twice, &one, 5), &READ);
@@ -105,12 +108,11 @@ fn numbers_42_and_43() {
 #[test]
 fn number_44_says_how_the_types_differ() {
     let one = cluster(&[id(0x07)]);
-    let path: Path = &[(0, Some("id"))];
-    let there = "unsigned 32-bit integer \"id\"; first difference: the type is \
-                 unsigned 32-bit integer here and signed 32-bit integer in the writer";
     let refused = Refused {
-        path,
-        there,
+        path: &[(0, Some("id"))],
+        there: "unsigned 32-bit integer \"id\"",
+        facts: "first difference: the type is unsigned 32-bit integer here \
+                and signed 32-bit integer in the writer",
         ..member(44, 0)
     };
     refused.by(&record("refused-44", &cluster(&[id(0x03)]), &one, 4), &READ);
@@ -121,11 +123,10 @@ fn number_44_says_how_the_types_differ() {
         )
     };
     let writer = cluster(&[id(0x05), of(0x09)]);
-    let there = "cluster of 2 members \"b\"; first difference in 1 \"v\": the type is double here \
-                 and single in the writer";
     let refused = Refused {
         path: &[(1, Some("b"))],
-        there,
+        there: "cluster of 2 members \"b\"",
+        facts: "first difference in 1 \"v\": the type is double here and single in the writer",
         ..member(44, 1)
     };
     let reader = cluster(&[id(0x05), of(0x0A)]);
@@ -160,6 +161,7 @@ fn number_50_by_each_command_with_an_output() {
         let refused = Refused {
             file,
             there: "room for 3 bytes",
+            facts: &format!("{place} bytes needed"),
             ..request(50, place)
         };
         refused.by(&folder, &[words, &["--room", "3"]].concat());
