@@ -71,7 +71,7 @@ fn all_keep(d: &[u8], p: usize, w: usize, n: usize, s: &[u8], at: usize, o: Orde
 
 // How many of the first of n scalars of the type at p, of w bytes each, keep its rule: all of them, or those before one that does not,
 // which is found by halves.
-fn kept(d: &[u8], p: usize, w: usize, n: usize, s: &[u8], at: usize, o: Order) -> usize
+fn kept_within(d: &[u8], p: usize, w: usize, n: usize, s: &[u8], at: usize, o: Order) -> usize
     requires { ⌜ Stands (now d) p ⌝ }
     requires { ⌜ w ≡ widthOf (codeIn (now d) p) ⌝ }
     requires { ⌜ at + n * w ≤ length (now s) ⌝ }
@@ -90,6 +90,49 @@ fn kept(d: &[u8], p: usize, w: usize, n: usize, s: &[u8], at: usize, o: Order) -
         } else {
             span = half;
         }
+    }
+    count
+}
+
+// The smaller of two lengths.
+fn shorter(a: usize, b: usize) -> usize
+    requires { ⌜ (0 < a) × (0 < b) ⌝ }
+    ensures { λ r. ⌜ (0 < r) × (r ≤ b) ⌝ }
+{
+    if a < b {
+        return a;
+    }
+    b
+}
+
+// The stretch after one that all keep the rule: twice as long, up to 8,192.
+fn longer(stretch: usize) -> usize
+    requires { ⌜ 0 < stretch ⌝ }
+    ensures { λ r. ⌜ 0 < r ⌝ }
+{
+    if stretch < 8192 {
+        return stretch * 2;
+    }
+    stretch
+}
+
+// The same, stretch by stretch: where one is refused, no more than its stretch is looked at twice, and nothing behind it.
+fn kept(d: &[u8], p: usize, w: usize, n: usize, s: &[u8], at: usize, o: Order) -> usize
+    requires { ⌜ Stands (now d) p ⌝ }
+    requires { ⌜ w ≡ widthOf (codeIn (now d) p) ⌝ }
+    requires { ⌜ at + n * w ≤ length (now s) ⌝ }
+    ensures { λ r. ⌜ (r ≤ n) × EachKeeps (typeRule (typeAt (now (d .entry)) p)) (orderOf o) (now (s .entry)) w at r ⌝ }
+{
+    let mut count = 0;
+    let mut stretch = 512;
+    while count < n {
+        let span = shorter(stretch, n - count);
+        let more = kept_within(d, p, w, span, s, at + count * w, o);
+        count += more;
+        if more < span {
+            return count;
+        }
+        stretch = longer(stretch);
     }
     count
 }

@@ -1,6 +1,6 @@
--- `kept` meets its contract. The invariant: those counted each keep the rule, and the span lies after them.
+-- `kept` meets its contract. The invariant: those counted each keep the rule.
 use mathlib.Core.Path.{sym, _∙_}
-use Prim.Native.Nat.{_+_, _/_, _≤_}
+use Prim.Native.Nat.{_+_, _-_, _≤_, _<_}
 use native.Mathlib.Omega.{arith}
 use lib.ListN.{length}
 use denote.Ref.{now}
@@ -8,76 +8,79 @@ use Rattle.flattened.specs.inner.Order.{orderOf}
 use Rattle.flattened.specs.inner.Extent.{typeRule}
 use Rattle.flattened.specs.inner.Types.{typeAt}
 use Rattle.flattened.specs.inner.Arrays.{EachKeeps}
-use Rattle.elements.proofs.Maxima.{fewer-within, more-within, each-kept, each-more}
+use Rattle.elements.proofs.Maxima.{fewer-within, more-within, each-more}
 use borrow.Author.Needs.{needs}
 use Rattle.walking.proofs.arrays.kept.Statement.{statement}
 use Rattle.walking.proofs.arrays.kept.Tie as tie
 
 abbrev Inv-loop : tie.InvT-loop
-Inv-loop d p w n s at o count₀ span₀ count span = (count + span ≤ n) × EachKeeps (typeRule (typeAt d p)) (orderOf o) s w at count
+Inv-loop d p w n s at o count₀ stretch₀ count stretch = (0 < stretch) × ((count ≤ n) × EachKeeps (typeRule (typeAt d p)) (orderOf o) s w at count)
 
 abbrev μ-loop : tie.MeasureT-loop
-μ-loop d p w n s at o count₀ span₀ count span = span
+μ-loop d p w n s at o count₀ stretch₀ count stretch = n - count
 
-all-keep-requires : tie.Need-all-keep-requires Inv-loop μ-loop
-all-keep-requires c κs = c .before .before .pre
+loop-holds : tie.Need-loop-holds Inv-loop μ-loop
+loop-holds c = (omega arith, (omega arith, λ i h. absurd (omega arith)))
+
+sub-shorter : tie.Need-sub-shorter Inv-loop μ-loop
+sub-shorter c = omega (arith, c .before .loop .inv .1 .0)
+
+shorter-requires : tie.Need-shorter-requires Inv-loop μ-loop
+shorter-requires c κs = (c .before .loop .inv .0, omega (arith, c .loop-test .taken))
+
+mul-kept-within : tie.Need-mul-kept-within Inv-loop μ-loop
+mul-kept-within c =
+    let a = c .before .before .before .before .before .args in
+    let l = c .before .before .loop in
+    let room = fewer-within (a .w) (a .at) (length (now (a .s))) (l .count) (a .n) (l .inv .1 .0) (c .before .before .before .before .before .pre .1 .1) in
+    record { fits = omega (arith, room) }
+
+add-kept-within : tie.Need-add-kept-within Inv-loop μ-loop
+add-kept-within c =
+    let a = c .before .before .before .before .before .args in
+    let l = c .before .before .loop in
+    let room = fewer-within (a .w) (a .at) (length (now (a .s))) (l .count) (a .n) (l .inv .1 .0) (c .before .before .before .before .before .pre .1 .1) in
+    record { fits = omega (arith, room) }
+
+kept-within-requires : tie.Need-kept-within-requires Inv-loop μ-loop
+kept-within-requires c κs =
+    let a = c .before .before .before .before .before .args in
+    let l = c .before .before .loop in
+    let pre = c .before .before .before .before .before .pre in
+    (pre .0, (pre .1 .0, more-within (a .w) (a .at) (length (now (a .s))) (l .count) (c .shorter .result) (a .n) (omega (arith, c .shorter .ensures .1, l .inv .1 .0)) (pre .1 .1)))
+
+add-count : tie.Need-add-count Inv-loop μ-loop
+add-count c = omega (arith, c .before .before .before .loop .inv .1 .0, c .before .shorter .ensures .1, c .kept-within .ensures .0)
 
 returns : tie.Need-returns Inv-loop μ-loop
 returns c =
-    let a = c .before .before .before .before .args in
-    (omega arith, each-kept _ (orderOf (a .o)) (now (a .s)) (a .w) (a .at) (a .n) (sym (c .before .all-keep .ensures) ∙ c .if1 .taken))
+    let a = c .before .before .before .before .before .before .before .args in
+    let l = c .before .before .before .before .loop in
+    let more = c .before .kept-within in (
+      omega (arith, l .inv .1 .0, c .before .before .shorter .ensures .1, more .ensures .0),
+      each-more (typeRule (typeAt (now (a .d)) (a .p))) (orderOf (a .o)) (now (a .s)) (a .w) (a .at) (l .count) (more .result) (l .inv .1 .1) (more .ensures .1),
+    )
 
-loop-holds : tie.Need-loop-holds Inv-loop μ-loop
-loop-holds c = (omega arith, λ i h. absurd (omega arith))
-
-mul-all-keep : tie.Need-mul-all-keep Inv-loop μ-loop
-mul-all-keep c =
-    let a = c .before .before .before .before .before .before .args in
-    let l = c .before .loop in
-    let room = fewer-within (a .w) (a .at) (length (now (a .s))) (l .count) (a .n) (omega (arith, l .inv .0)) (c .before .before .before .before .before .before .pre .1 .1) in
-    record { fits = omega (arith, room) }
-
-add-all-keep : tie.Need-add-all-keep Inv-loop μ-loop
-add-all-keep c =
-    let a = c .before .before .before .before .before .before .args in
-    let l = c .before .loop in
-    let room = fewer-within (a .w) (a .at) (length (now (a .s))) (l .count) (a .n) (omega (arith, l .inv .0)) (c .before .before .before .before .before .before .pre .1 .1) in
-    record { fits = omega (arith, room) }
-
-all-keep-requires-2 : tie.Need-all-keep-requires-2 Inv-loop μ-loop
-all-keep-requires-2 c κs =
-    let a = c .before .before .before .before .before .before .args in
-    let l = c .before .loop in
-    (c .before .before .before .before .before .before .pre .0, (c .before .before .before .before .before .before .pre .1 .0, more-within (a .w) (a .at) (length (now (a .s))) (l .count) (l .span / 2) (a .n) (omega (arith, l .inv .0)) (c .before .before .before .before .before .before .pre .1 .1)))
-
-add-count : tie.Need-add-count Inv-loop μ-loop
-add-count c = search needs
-
-sub-span : tie.Need-sub-span Inv-loop μ-loop
-sub-span c = omega arith
+longer-requires : tie.Need-longer-requires Inv-loop μ-loop
+longer-requires c κs = c .before .before .before .before .loop .inv .0
 
 loop-less : tie.Need-loop-less Inv-loop μ-loop
-loop-less c = omega (arith, c .before .before .loop-test .taken)
+loop-less c = omega (arith, c .before .before .before .before .before .loop .inv .1 .0, c .before .before .before .before .loop-test .taken, c .before .before .before .shorter .ensures, c .before .before .kept-within .ensures .0, c .before .if1 .left)
 
 loop-again : tie.Need-loop-again Inv-loop μ-loop
 loop-again c =
     let a = c .before .before .before .before .before .before .before .before .args in
-    let l = c .before .before .before .loop in (
-      omega (arith, l .inv .0),
-      each-more (typeRule (typeAt (now (a .d)) (a .p))) (orderOf (a .o)) (now (a .s)) (a .w) (a .at) (l .count) (l .span / 2) (l .inv .1)
-          (each-kept _ (orderOf (a .o)) (now (a .s)) (a .w) _ (l .span / 2) (sym (c .before .all-keep2 .ensures) ∙ c .if2 .taken)),
+    let l = c .before .before .before .before .before .loop in
+    let more = c .before .before .kept-within in (
+      c .longer .ensures,
+      (
+        omega (arith, l .inv .1 .0, c .before .before .before .shorter .ensures .1, more .ensures .0),
+        each-more (typeRule (typeAt (now (a .d)) (a .p))) (orderOf (a .o)) (now (a .s)) (a .w) (a .at) (l .count) (more .result) (l .inv .1 .1) (more .ensures .1),
+      ),
     )
 
-loop-less-2 : tie.Need-loop-less-2 Inv-loop μ-loop
-loop-less-2 c = omega (arith, c .before .before .loop-test .taken)
-
-loop-again-2 : tie.Need-loop-again-2 Inv-loop μ-loop
-loop-again-2 c =
-    let l = c .before .before .before .loop in
-    (omega (arith, l .inv .0), l .inv .1)
-
 returns-2 : tie.Need-returns-2 Inv-loop μ-loop
-returns-2 c = (omega (arith, c .before .loop .inv .0), c .before .loop .inv .1)
+returns-2 c = c .before .loop .inv .1
 
 pub kept-spec : {M : Type 1} → statement M
 kept-spec =
@@ -85,16 +88,15 @@ kept-spec =
     (tie.spec
     Inv-loop
     μ-loop
-    all-keep-requires
-    returns
     loop-holds
-    mul-all-keep
-    add-all-keep
-    all-keep-requires-2
+    sub-shorter
+    shorter-requires
+    mul-kept-within
+    add-kept-within
+    kept-within-requires
     add-count
-    sub-span
+    returns
+    longer-requires
     loop-less
     loop-again
-    loop-less-2
-    loop-again-2
     returns-2)
