@@ -49,7 +49,7 @@ pub fn worked() {
     );
 }
 
-pub fn edges() {
+pub fn sizes() {
     let flags = b"\x00\x12\x00\x40\x00\x02\xFF\xFF\xFF\xFF\xFF\xFF\xFF\xFF\x00\x04\x00\x21";
     show_data(
         b"sizes 7FFFFFFF then 0 (01)",
@@ -78,6 +78,9 @@ pub fn edges() {
         most,
         b"\x7F\xFF\xFF\xFF\x7F\xFF\xFF\xFF\x7F\xFF\xFF\xFF\x00\x00\x00\x00",
     );
+}
+
+pub fn edges() {
     let choices = b"\x00\x14\x00\x40\x00\x01\xFF\xFF\xFF\xFF\x00\x0A\x00\x15\x00\x02\x01a\x01b";
     show_data(
         b"an enumeration too high, first of 2^31 - 1",

@@ -22,10 +22,12 @@ fn hand_checked() {
 
 fn main() {
     hand_checked();
-    numbers::numbers();
+    numbers::integers();
+    numbers::others();
     sources::nested();
     sources::listed();
     data::worked();
+    data::sizes();
     data::edges();
     records::old_faults();
     records::refusals();

@@ -1,7 +1,7 @@
 // The types that the tables of 002 and 004 give whole, `xx` being the reserved byte. 004 has them without the two of 64 bits.
 use super::show::show;
 
-pub fn numbers() {
+pub fn integers() {
     show(b"8-bit integer", b"\x00\x04\x00\x01");
     show(b"16-bit integer", b"\x00\x04\x00\x02");
     show(b"32-bit integer", b"\x00\x04\x00\x03");
@@ -10,6 +10,9 @@ pub fn numbers() {
     show(b"unsigned 16-bit integer", b"\x00\x04\x00\x06");
     show(b"unsigned 32-bit integer", b"\x00\x04\x00\x07");
     show(b"unsigned 64-bit integer (002)", b"\x00\x04\x00\x08");
+}
+
+pub fn others() {
     show(b"single", b"\x00\x04\x00\x09");
     show(b"double", b"\x00\x04\x00\x0A");
     show(b"extended", b"\x00\x04\x00\x0B");
