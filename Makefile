@@ -41,8 +41,9 @@ run: command ## the command on the samples: a record read, moved and damaged
 test: ## the gate, which proves and tests everything
 	.ci/run
 
-bench: library ## the library and the second implementation, timed side by side
-	cargo run $(HOST) --package bench -- --plot docs/bench.svg
+bench: library ## the library and the second implementation, timed side by side, as docs/bench.txt and docs/bench.svg
+	cargo run $(HOST) --package bench -- --plot docs/bench.svg > target/bench.txt
+	@cp target/bench.txt docs/bench.txt && cat docs/bench.txt
 
 fuzz: library ## the differential test over fresh seeds on every core, for MINUTES (10)
 	cargo run $(HOST) --package differential -- --minutes $(MINUTES)

@@ -185,9 +185,21 @@ def _library_name() -> str:
     return _SONAME
 
 
+def _loaded(name: str) -> ctypes.CDLL:
+    try:
+        return ctypes.CDLL(name)
+    except OSError as trouble:
+        raise ImportError(
+            f"the library of this module can't be loaded: {trouble}; `make install` puts it in place, `make shared` builds it in a clone,"
+            " and the variable KERBCANOPY_LIBRARY can name it",
+            name=__name__,
+            path=name,
+        ) from trouble
+
+
 #: The shared library that was loaded.
 LIBRARY = _library_name()
-_library = ctypes.CDLL(LIBRARY)
+_library = _loaded(LIBRARY)
 
 _INPUT: Tuple[Any, ...] = (ctypes.c_char_p, ctypes.c_size_t)
 _OUTPUT: Tuple[Any, ...] = (ctypes.c_void_p, ctypes.c_size_t)

@@ -115,6 +115,9 @@ impl<'a> Words<'a> {
             ("-h" | "--help", _, None) => self.help = true,
             ("-V" | "--version", _, None) => self.version = true,
             (_, Some(known), None) => self.flag(known),
+            (_, Some(_), Some(_)) | ("-h" | "--help" | "-V" | "--version", _, _) => {
+                return Err(format!("{option} takes no value; see kerbcanopy --help"));
+            }
             _ => {
                 let option = shown(name);
                 return Err(format!(
@@ -228,7 +231,7 @@ mod tests {
 
     #[test]
     fn a_wrong_use_is_named() {
-        let cases: [(&[&str], &str); 17] = [
+        let cases: [(&[&str], &str); 20] = [
             (&[], "no command"),
             (&["look", "a"], "there is no command look"),
             (&["\u{1b}"], "there is no command \\x1B"),
@@ -241,6 +244,9 @@ mod tests {
             (&["check", "a", "-o", "b"], "check takes no -o"),
             (&["check", "a", "--x\r"], "there is no option --x\\x0D"),
             (&["value", "a", "b", "-1"], "there is no option -1"),
+            (&["check", "a", "--hex=1"], "--hex takes no value"),
+            (&["check", "a", "--json="], "--json takes no value"),
+            (&["--version=2"], "--version takes no value"),
             (&["normal", "a", "-o"], "-o needs the name of a file"),
             (&["normal", "a", "--room", "x"], "--room needs a number"),
             (
