@@ -75,10 +75,10 @@ $(ARCHIVE): $(PROVED)
 	@: > target/library.log
 	@for crate in $(CRATES); do \
 	    echo "proving $$crate" >&2; \
-	    rt check $$crate >> target/library.log 2>&1 || { cat target/library.log >&2; exit 1; }; \
+	    .ci/in-memory rt check $$crate >> target/library.log 2>&1 || { cat target/library.log >&2; exit 1; }; \
 	done
 	@echo "proving kerbcanopy, and building the library" >&2
-	@rt staticlib kerbcanopy >> target/library.log 2>&1 || { cat target/library.log >&2; exit 1; }
+	@.ci/in-memory rt staticlib kerbcanopy >> target/library.log 2>&1 || { cat target/library.log >&2; exit 1; }
 	@touch -c $(ARCHIVE)
 
 # Built only where something is newer, so that a root without cargo can install what somebody else built.

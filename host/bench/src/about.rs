@@ -1,5 +1,6 @@
 //! All that is timed, by entry.
 
+mod calls;
 mod data;
 mod descriptors;
 mod growth;
@@ -13,7 +14,8 @@ pub use growth::{Along, Curve, curves};
 
 /// The rows of the table.
 pub fn rows() -> Vec<Case> {
-    let mut rows = descriptors::rows();
+    let mut rows = calls::rows();
+    rows.extend(descriptors::rows());
     rows.extend(data::rows());
     rows.extend(order::rows());
     rows.extend(paths::rows());
