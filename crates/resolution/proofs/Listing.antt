@@ -11,7 +11,7 @@ use Rattle.descriptor.specs.Table.{rowOf}
 use Rattle.descriptor.specs.declared.answer.Row.{Row}
 use Rattle.flattened.specs.inner.Types.{typeAt}
 use Rattle.resolution.specs.inner.Members.{Inner, Members, placeFrom, nameFrom, typeFrom, Column}
-use Rattle.resolution.specs.inner.Names.{nameOf, namedAt, NameFits}
+use Rattle.resolution.specs.inner.Names.{nameOf, namedAt, NameFits, NamesLie}
 use Rattle.resolution.proofs.Filled.{column-none, column-more}
 use Rattle.resolution.proofs.InRow.{place-more, turn-at}
 use Rattle.resolution.proofs.Single.{single-name, single-within}
@@ -47,6 +47,13 @@ module _ (d : List ℕ) (k start : ℕ) (all : Members d k start) where
     pub member-name-fits : NameFits d (nameFrom d start i)
     unfolding nameFrom
     member-name-fits = single-within d (placeFrom d start i) member-inner
+
+  -- the names in a column
+  pub names-lie : (names : List ℕ) → Column (nameFrom d start) k names → NamesLie d names k
+  names-lie names column = record {
+    few = all .few;
+    fit = λ i h. subst (λ (x : ℕ). NameFits d x) (sym (column .at i h)) (member-name-fits i h);
+  }
 
   pub list-begin : (places names : List ℕ) → length places ≡ 256 → length names ≡ 256 → ListLoop d k start places names start 0
   unfolding placeFrom
