@@ -5,17 +5,16 @@ use mathlib.Core.List.{List}
 use Prim.Native.Nat.{ℕ, zero, suc, _+_, _-_, _^_, _≤_, _<_}
 use native.Mathlib.Numerals.{add-one}
 use native.Mathlib.Omega.{arith}
-use borrow.Author.Tests.{eq-eqb, ne-eqb, eqb-true, eqb-false, lt-ltb, le-ltb}
-use lib.Dec.{eqb, ltb}
+use borrow.Author.Tests.{eq-eqb, eqb-true, eqb-false, lt-ltb, le-ltb}
+use lib.Dec.{eqb}
 use lib.ListN.{length, getD, set, take, replicate, length-set, getD-replicate}
 use lib.Seq.{length-slice, getD-drop, getD-take, getD-set-same, getD-set-other}
 use Rattle.number.specs.Endian.{be}
 use Rattle.number.proofs.Inverse.{be-same}
 use Rattle.descriptor.specs.Tree.{Name, unnamed, named}
 use Rattle.descriptor.proofs.Steps.{impossible}
-use Rattle.canonical.specs.Equality.{sameChars}
 use Rattle.canonical.proofs.Same.{chars-same}
-use Rattle.resolution.specs.inner.Names.{charsAt, namedAt, hasChars, NameFits, NamesLie}
+use Rattle.resolution.specs.inner.Names.{charsAt, namedAt, hasChars, NameFits}
 use Rattle.resolution.specs.inner.Chains.{spread, ends, markOf, hasMark, lastOf, Unchained, Linked, Chained, Marked}
 use Rattle.resolution.proofs.Filled.{each-more}
 use Rattle.resolution.proofs.Single.{named-at}

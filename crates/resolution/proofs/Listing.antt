@@ -1,14 +1,13 @@
 -- The columns of places and names, filled member by member. Rests on the laws of descriptors in a row and of columns.
 use mathlib.Core.Path.{_≡_, refl, sym, ap, subst, _∙_}
 use mathlib.Core.List.{List}
-use Prim.Native.Nat.{ℕ, _+_, _-_, _≤_, _<_}
+use Prim.Native.Nat.{ℕ, _+_, _≤_, _<_}
 use native.Mathlib.Omega.{arith}
 use lib.ListN.{length, set, length-set}
 use Rattle.descriptor.specs.Limits.{depthLimit}
 use Rattle.descriptor.specs.Header.{sizeIn}
 use Rattle.descriptor.specs.Tree.{Tree, node}
 use Rattle.descriptor.specs.Table.{rowOf}
-use Rattle.descriptor.specs.declared.answer.Row.{Row}
 use Rattle.flattened.specs.inner.Types.{typeAt}
 use Rattle.resolution.specs.inner.Members.{Inner, Members, placeFrom, nameFrom, typeFrom, Column}
 use Rattle.resolution.specs.inner.Names.{nameOf, namedAt, NameFits, NamesLie}

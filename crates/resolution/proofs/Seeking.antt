@@ -1,5 +1,5 @@
 -- The search for a name, by the last member that has it and the last before that. Rests on the laws of a member's name and of chains.
-use mathlib.Core.Path.{_≡_, refl, sym, ap, ap₂, subst, _∙_}
+use mathlib.Core.Path.{_≡_, refl, sym, ap, subst, _∙_}
 use mathlib.Core.Bool.{Bool, true, false, cond}
 use mathlib.Core.List.{List, [], _∷_, _++_}
 use Prim.Native.Nat.{ℕ, zero, suc, _+_, _-_, _≤_, _<_}
@@ -12,7 +12,7 @@ use Rattle.flattened.specs.inner.Types.{typeAt}
 use Rattle.resolution.specs.Record.{Member, matches, namesakes, searched}
 use Rattle.resolution.specs.inner.Members.{Inner, topAt, placeFrom, typeFrom, memberFrom, membersFor}
 use Rattle.resolution.specs.inner.Names.{nameOf, namedAt, hasChars, NamesLie}
-use Rattle.resolution.specs.inner.Chains.{markOf, lastOf, Linked, Chained}
+use Rattle.resolution.specs.inner.Chains.{markOf, lastOf, Chained}
 use Rattle.resolution.specs.inner.Searching.{Listed, allMembers, bare, Seeks}
 use Rattle.resolution.specs.declared.Search.the-variants.{Missing, Doubled, Found}
 use Rattle.resolution.proofs.Listing.{member-inner, member-name, names-lie}

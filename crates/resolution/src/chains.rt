@@ -5,7 +5,6 @@ use number::endian::be32;
 use number::endian::read_be;
 ghost use mathlib.Core.Path.{_≡_};
 ghost use Prim.Native.Nat.{_<_, _^_};
-ghost use lib.ListN.{length};
 ghost use Rattle.number.specs.inner.Post.{Bounded};
 ghost use Rattle.resolution.specs.inner.Names.{NameFits, NamesLie, charsAt, hasChars};
 ghost use Rattle.resolution.specs.inner.Chains.{spread, markOf, lastOf, Unchained, Linked, Chained, Marked};
