@@ -65,7 +65,7 @@ returns-2 c =
     let b = c .before .before .before .before .before .before .before .before .before .before .before in
     let w = now (b .args .w) in
     let x = charsAt (now (b .args .r)) (b .args .y) in
-    seek-doubled w (b .args .k) (now (b .args .places)) (now (b .args .names)) x (b .pre .0) (now (b .args .heads)) (now (b .args .links)) (b .pre .1 .0) _ (c .before .before .before .before .before .before .before .before .mark .ensures .eq) (c .before .before .before .before .before .before .before .before .mark .ensures .below) _ (c .before .before .before .before .before .before .wide .ensures .eq) _ (c .before .before .before .before .before .last-namesake .ensures) (λ e. c .before .before .before .before .if1 .left e) _ (c .before .before .wide2 .ensures .eq) _ (c .before .last-namesake2 .ensures) (λ e. c .if2 .taken e)
+    seek-doubled w (b .args .k) (now (b .args .places)) (now (b .args .names)) x (b .pre .0) (now (b .args .heads)) (now (b .args .links)) (b .pre .1 .0) _ (c .before .before .before .before .before .before .before .before .mark .ensures .eq) (c .before .before .before .before .before .before .before .before .mark .ensures .below) _ (c .before .before .before .before .before .before .wide .ensures .eq) _ (c .before .before .before .before .before .last-namesake .ensures) (λ e. c .before .before .before .before .if1 .left e) _ (c .before .before .wide2 .ensures .eq) _ (c .before .last-namesake2 .ensures) (c .if2 .taken)
 
 mul-wide-3 : tie.Need-mul-wide-3
 mul-wide-3 c =
