@@ -3,6 +3,7 @@ pub mod InRow
 pub mod Walking
 pub mod Single
 pub mod Listing
+pub mod Chaining
 pub mod Named
 pub mod Apart
 pub mod Seeking

@@ -1,17 +1,16 @@
 -- The columns of places and names, filled member by member. Rests on the laws of descriptors in a row and of columns.
 use mathlib.Core.Path.{_≡_, refl, sym, ap, subst, _∙_}
 use mathlib.Core.List.{List}
-use Prim.Native.Nat.{ℕ, _+_, _-_, _≤_, _<_}
+use Prim.Native.Nat.{ℕ, _+_, _≤_, _<_}
 use native.Mathlib.Omega.{arith}
 use lib.ListN.{length, set, length-set}
 use Rattle.descriptor.specs.Limits.{depthLimit}
 use Rattle.descriptor.specs.Header.{sizeIn}
 use Rattle.descriptor.specs.Tree.{Tree, node}
 use Rattle.descriptor.specs.Table.{rowOf}
-use Rattle.descriptor.specs.declared.answer.Row.{Row}
 use Rattle.flattened.specs.inner.Types.{typeAt}
 use Rattle.resolution.specs.inner.Members.{Inner, Members, placeFrom, nameFrom, typeFrom, Column}
-use Rattle.resolution.specs.inner.Names.{nameOf, namedAt, NameFits}
+use Rattle.resolution.specs.inner.Names.{nameOf, namedAt, NameFits, NamesLie}
 use Rattle.resolution.proofs.Filled.{column-none, column-more}
 use Rattle.resolution.proofs.InRow.{place-more, turn-at}
 use Rattle.resolution.proofs.Single.{single-name, single-within}
@@ -48,6 +47,13 @@ module _ (d : List ℕ) (k start : ℕ) (all : Members d k start) where
     unfolding nameFrom
     member-name-fits = single-within d (placeFrom d start i) member-inner
 
+  -- the names in a column
+  pub names-lie : (names : List ℕ) → Column (nameFrom d start) k names → NamesLie d names k
+  names-lie names column = record {
+    few = all .few;
+    fit = λ i h. subst (λ (x : ℕ). NameFits d x) (sym (column .at i h)) (member-name-fits i h);
+  }
+
   pub list-begin : (places names : List ℕ) → length places ≡ 256 → length names ≡ 256 → ListLoop d k start places names start 0
   unfolding placeFrom
   list-begin places names wide long =
@@ -61,23 +67,19 @@ module _ (d : List ℕ) (k start : ℕ) (all : Members d k start) where
       pub list-size : p + sizeIn d p ≤ length d
       list-size = subst (λ (q : ℕ). q + sizeIn d q ≤ length d) (sym (l .place)) (member-within i more)
 
-      pub list-again : (r : Row) → r ≡ rowOf p 2 (typeAt d p) → (q : ℕ) → q ≡ p + sizeIn d p → i < 256
-          → ListLoop d k start (set places i (r .start)) (set names i (r .«name_place»)) q (i + 1)
-      unfolding nameFrom rowOf
-      list-again r er q eq room =
-          let row : r ≡ rowOf (placeFrom d start i) 2 (typeFrom d start i) = er ∙ ap (λ (x : ℕ). rowOf x 2 (typeAt d x)) (l .place) in
-          record {
-            most = omega arith;
-            place = eq ∙ ap (λ (x : ℕ). x + sizeIn d x) (l .place) ∙ sym (place-more d start i);
-            standing =
-                column-more (placeFrom d start) i (r .start) places (l .standing) (omega (arith, l .wide))
-                (ap (λ (x : Row). x .start) row ∙ row-start (placeFrom d start i) (typeFrom d start i));
-            naming =
-                column-more (nameFrom d start) i (r .«name_place») names (l .naming) (omega (arith, l .long))
-                (ap (λ (x : Row). x .«name_place») row);
-            wide = length-set places i (r .start) ∙ l .wide;
-            long = length-set names i (r .«name_place») ∙ l .long;
-          }
+      pub list-again : (name : ℕ) → name ≡ rowOf p 2 (typeAt d p) .«name_place» → (q : ℕ) → q ≡ p + sizeIn d p → i < 256
+          → ListLoop d k start (set places i p) (set names i name) q (i + 1)
+      unfolding nameFrom
+      list-again name en q eq room = record {
+        most = omega arith;
+        place = eq ∙ ap (λ (x : ℕ). x + sizeIn d x) (l .place) ∙ sym (place-more d start i);
+        standing = column-more (placeFrom d start) i p places (l .standing) (omega (arith, l .wide)) (l .place);
+        naming =
+            column-more (nameFrom d start) i name names (l .naming) (omega (arith, l .long))
+            (en ∙ ap (λ (x : ℕ). rowOf x 2 (typeAt d x) .«name_place») (l .place));
+        wide = length-set places i p ∙ l .wide;
+        long = length-set names i name ∙ l .long;
+      }
 
     -- all are listed
     module _ (done : k ≤ i) where

@@ -1,13 +1,15 @@
 -- Names by their places: what makes two the same, and which of a reader's are at fault. Rests on the laws of a row's name.
-use mathlib.Core.Path.{_≡_, sym, ap, subst, _∙_}
+use mathlib.Core.Path.{_≡_, refl, sym, ap, subst, _∙_}
 use mathlib.Core.Bool.{Bool, true, false, not, cond}
 use mathlib.Core.List.{List, [], _∷_}
-use Prim.Native.Nat.{ℕ, suc, _+_, _-_, _≤_, _<_}
+use Prim.Native.Nat.{ℕ, zero, suc, _+_, _-_, _≤_, _<_}
 use native.Mathlib.Nat.{sub-zero}
 use native.Mathlib.Numerals.{add-one}
 use native.Mathlib.Omega.{arith}
+use borrow.Author.Tests.{lt-ltb, le-ltb}
+use lib.Dec.{ltb}
 use lib.ListN.{length, getD, take, drop}
-use lib.Seq.{slice, length-slice}
+use lib.Seq.{slice}
 use Rattle.descriptor.specs.Limits.{depthLimit}
 use Rattle.descriptor.specs.Outcome.{Outcome, refused, require}
 use Rattle.descriptor.specs.Tree.{Name, unnamed, named, Tree, node, Forest, cons}
@@ -20,11 +22,13 @@ use Rattle.canonical.proofs.Lists.{bool-same, part-slice}
 use Rattle.canonical.proofs.Same.{chars-same, chars-refl}
 use Rattle.resolution.specs.Record.{isAmong, readerNames}
 use Rattle.resolution.specs.inner.Members.{Members, placeFrom, typeFrom, nameFrom, Column}
-use Rattle.resolution.specs.inner.Names.{nameOf, charsAt, namedAt, hasChars, NameFits, NamesFit, AllNamed, seenNames}
+use Rattle.resolution.specs.inner.Names.{nameOf, charsAt, namedAt, hasChars, NameFits, NamesLie, AllNamed, seenNames}
+use Rattle.resolution.specs.inner.Chains.{markOf, hasMark, lastOf, Chained}
 use Rattle.resolution.proofs.Filled.{each-more}
 use Rattle.resolution.proofs.InRow.{no-types, types-at}
 use Rattle.resolution.proofs.Single.{named-at}
-use Rattle.resolution.proofs.Listing.{member-name, member-name-fits}
+use Rattle.resolution.proofs.Listing.{member-name, names-lie}
+use Rattle.resolution.proofs.Chaining.{chars-long, own-marked, Follows, follows-link}
 
 -- no name has no characters
 pub none-same : (a b : List ℕ) (x y : ℕ) → x ≡ 0 → false ≡ hasChars (charsAt b y) (namedAt a x)
@@ -45,30 +49,19 @@ parts-same a b x y first second r some ef es holds back =
     (λ e. back (ey ∙ chars-same v u e ∙ sym ex))
     ∙ ap (hasChars v) (sym (named-at a x some))
 
--- the search among the names before
-module _ (d names : List ℕ) (x : List ℕ) where
-  abbrev among : ℕ → Bool
-  among i = isAmong x (seenNames d names i)
-
-  -- one before i
-  before : (i m : ℕ) → i ≡ suc m → among i ≡ cond (sameChars x (charsAt d (getD names m 0))) true (among m)
-  unfolding isAmong seenNames
-  before i m e = ap among e
-
-  module _ (i m : ℕ) (e : i ≡ suc m) (r : Bool) (some : 0 < getD names m 0) (er : r ≡ hasChars x (namedAt d (getD names m 0))) where
-    says : r ≡ sameChars x (charsAt d (getD names m 0))
-    unfolding hasChars
-    says = er ∙ ap (hasChars x) (named-at d (getD names m 0) some)
-
-    pub among-found : r ≡ true → among i ≡ true
-    among-found is = before i m e ∙ ap (λ (b : Bool). cond b true (among m)) (sym says ∙ is)
-
-    pub among-next : r ≡ false → among i ≡ among m
-    among-next none = before i m e ∙ ap (λ (b : Bool). cond b true (among m)) (sym says ∙ none)
-
-  pub among-none : (i : ℕ) → i ≡ 0 → among i ≡ false
-  unfolding isAmong seenNames
-  among-none i e = ap among e
+-- a name is among those before where one of the members before has it
+among-last : (d names x : List ℕ) (j : ℕ) → ((i : ℕ) → i < j → 0 < getD names i 0)
+    → ltb 0 (lastOf (hasChars x) d names j) ≡ isAmong x (seenNames d names j)
+unfolding isAmong seenNames lastOf hasChars
+among-last d names x zero some = refl
+among-last d names x (suc i) some =
+    ap (λ (m : Name). ltb 0 (cond (hasChars x m) (suc i) (lastOf (hasChars x) d names i))) (named-at d (getD names i 0) (some i (omega arith)))
+    ∙ go (sameChars x (charsAt d (getD names i 0))) (among-last d names x i (λ n h. some n (omega arith)))
+  where
+    go : (b : Bool) → ltb 0 (lastOf (hasChars x) d names i) ≡ isAmong x (seenNames d names i)
+        → ltb 0 (cond b (suc i) (lastOf (hasChars x) d names i)) ≡ cond b true (isAmong x (seenNames d names i))
+    go true before = lt-ltb 0 (suc i) (omega arith)
+    go false before = before
 
 -- a reader's member, by its name
 module _ (seen : List (List ℕ)) (j : ℕ) where
@@ -107,8 +100,8 @@ module _ (d : List ℕ) (k start : ℕ) (names : List ℕ) (all : Members d k st
   }
 
   -- the names of the members lie in the bytes
-  pub names-lie : (i : ℕ) → i < k → NameFits d (getD names i 0)
-  names-lie i h = subst (λ (x : ℕ). NameFits d x) (sym (column .at i h)) (member-name-fits d k start all i h)
+  pub names-through : NamesLie d names k
+  names-through = names-lie d k start all names column
 
   module _ (j : ℕ) (l : NameLoop d k start names j) where
     module _ (more : j < k) (x : ℕ) (ex : x ≡ getD names j 0) where
@@ -126,7 +119,7 @@ module _ (d : List ℕ) (k start : ℕ) (names : List ℕ) (all : Members d k st
       split = l .same ∙ ap (λ (f : Forest). nameStep (readerNames seen j f)) (types-at d k start depthLimit (all .row) j more)
 
       pub name-lies : NameFits d x
-      name-lies = subst (λ (y : ℕ). NameFits d y) (sym ex) (names-lie j more)
+      name-lies = subst (λ (y : ℕ). NameFits d y) (sym ex) (names-through .fit j more)
 
       -- is missing
       pub name-missing : x ≡ 0 → refusedStep 40 j ≡ nameStep (readerNames [] 0 (typesAt d k start))
@@ -138,31 +131,35 @@ module _ (d : List ℕ) (k start : ℕ) (names : List ℕ) (all : Members d k st
         called : nameOf (typeFrom d start j) ≡ named (charsAt d x)
         called = sym name-is ∙ named-at d x some
 
-        long : length (charsAt d x) ≡ getD d (x - 1) 0
-        unfolding charsAt
-        long = length-slice x (x + getD d (x - 1) 0) d (name-lies .within some) ∙ (let e : x + getD d (x - 1) 0 - x ≡ getD d (x - 1) 0 = omega arith in e)
-
         -- is empty
         pub name-empty : getD d (x - 1) 0 ≡ 0 → refusedStep 40 j ≡ nameStep (readerNames [] 0 (typesAt d k start))
-        name-empty e = sym (split ∙ ap nameStep (reader-empty seen j (charsAt d x) (long ∙ e) (typeFrom d start j) others called))
+        name-empty e = sym (split ∙ ap nameStep (reader-empty seen j (charsAt d x) (chars-long d x some name-lies ∙ e) (typeFrom d start j) others called))
 
-        module _ (full : getD d (x - 1) 0 ≡ 0 → ⊥) (earlier : Bool) (ee : earlier ≡ isAmong (charsAt d (getD names j 0)) (seenNames d names j)) where
-          here : earlier ≡ isAmong (charsAt d x) seen
-          here = ee ∙ ap (λ (y : ℕ). isAmong (charsAt d y) seen) (sym ex)
+        -- is searched for among the members before
+        module _ (heads links : List ℕ) (chained : Chained d names k heads links) (before : ℕ) (eb : before ≡ getD links j 0) where
+          pub name-follows : Follows d names k j (charsAt d x) before
+          name-follows =
+              follows-link d names k (charsAt d x) links (chained .linked) j more
+              (ap (λ (y : ℕ). hasMark (markOf (charsAt d x)) (namedAt d y)) (sym ex) ∙ own-marked d x some) before eb
+
+        module _ (full : getD d (x - 1) 0 ≡ 0 → ⊥) (heads links : List ℕ) (chained : Chained d names k heads links) (before : ℕ) (eb : before ≡ getD links j 0)
+            (last : ℕ) (el : last ≡ lastOf (hasChars (charsAt d x)) d names before) where
+          here : ltb 0 last ≡ isAmong (charsAt d x) seen
+          here = ap (ltb 0) (el ∙ sym (name-follows heads links chained before eb .same)) ∙ among-last d names (charsAt d x) j (l .some)
 
           judged : nameStep (readerNames [] 0 (typesAt d k start))
-              ≡ nameStep (require (not earlier) 40 j (readerNames (charsAt d x ∷ seen) (j + 1) others))
+              ≡ nameStep (require (not (ltb 0 last)) 40 j (readerNames (charsAt d x ∷ seen) (j + 1) others))
           judged =
               split
-              ∙ ap nameStep (reader-named seen j (charsAt d x) (omega (arith, long, full)) (typeFrom d start j) others called)
+              ∙ ap nameStep (reader-named seen j (charsAt d x) (omega (arith, chars-long d x some name-lies, full)) (typeFrom d start j) others called)
               ∙ ap (λ (b : Bool). nameStep (require (not b) 40 j (readerNames (charsAt d x ∷ seen) (j + 1) others))) (sym here)
 
           -- is an earlier member's
-          pub name-earlier : earlier ≡ true → refusedStep 40 j ≡ nameStep (readerNames [] 0 (typesAt d k start))
-          name-earlier is = sym (judged ∙ ap (λ (b : Bool). nameStep (require (not b) 40 j (readerNames (charsAt d x ∷ seen) (j + 1) others))) is)
+          pub name-earlier : (last ≡ 0 → ⊥) → refusedStep 40 j ≡ nameStep (readerNames [] 0 (typesAt d k start))
+          name-earlier is = sym (judged ∙ ap (λ (b : Bool). nameStep (require (not b) 40 j (readerNames (charsAt d x ∷ seen) (j + 1) others))) (lt-ltb 0 last (omega (arith, is))))
 
           -- or is right
-          pub name-again : earlier ≡ false → NameLoop d k start names (j + 1)
+          pub name-again : last ≡ 0 → NameLoop d k start names (j + 1)
           unfolding seenNames
           name-again none =
               let grown : seenNames d names (j + 1) ≡ charsAt d x ∷ seen = ap (seenNames d names) (add-one j) ∙ ap (λ (y : ℕ). charsAt d y ∷ seen) (sym ex) in
@@ -171,17 +168,9 @@ module _ (d : List ℕ) (k start : ℕ) (names : List ℕ) (all : Members d k st
                 some = each-more (λ i. 0 < getD names i 0) j (l .some) (subst (λ (y : ℕ). 0 < y) ex some);
                 same =
                     judged
-                    ∙ ap (λ (b : Bool). nameStep (require (not b) 40 j (readerNames (charsAt d x ∷ seen) (j + 1) others))) none
+                    ∙ ap (λ (b : Bool). nameStep (require (not b) 40 j (readerNames (charsAt d x ∷ seen) (j + 1) others))) (le-ltb 0 last (omega arith))
                     ∙ ap (λ (s : List (List ℕ)). nameStep (readerNames s (j + 1) others)) (sym grown);
               }
-
-      -- the names that the search goes through
-      pub names-through : 0 < x → NamesFit d names j
-      names-through some = record {
-        few = omega (arith, all .few);
-        fit = λ i h. names-lie i (omega arith);
-        some = λ i h. each-more (λ m. 0 < getD names m 0) j (l .some) (subst (λ (y : ℕ). 0 < y) ex some) i (omega arith);
-      }
 
     -- all are right
     pub name-done : k ≤ j → readStep k 0 0 ≡ nameStep (readerNames [] 0 (typesAt d k start))

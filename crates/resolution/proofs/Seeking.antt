@@ -1,10 +1,8 @@
--- The search for a name, member by member: none so far, one so far, or two. Rests on the laws of a member's name.
+-- The search for a name, by the last member that has it and the last before that. Rests on the laws of a member's name and of chains.
 use mathlib.Core.Path.{_≡_, refl, sym, ap, subst, _∙_}
 use mathlib.Core.Bool.{Bool, true, false, cond}
-use mathlib.Core.List.{List, [], _∷_}
-use Prim.Native.Nat.{ℕ, suc, _+_, _-_, _≤_, _<_}
-use native.Mathlib.Nat.{sub-zero}
-use native.Mathlib.Numerals.{add-one}
+use mathlib.Core.List.{List, [], _∷_, _++_}
+use Prim.Native.Nat.{ℕ, zero, suc, _+_, _-_, _≤_, _<_}
 use native.Mathlib.Omega.{arith}
 use lib.ListN.{getD}
 use Rattle.descriptor.specs.Tree.{unnamed, named, Tree, node}
@@ -13,10 +11,12 @@ use Rattle.descriptor.specs.declared.answer.Row.{Row}
 use Rattle.flattened.specs.inner.Types.{typeAt}
 use Rattle.resolution.specs.Record.{Member, matches, namesakes, searched}
 use Rattle.resolution.specs.inner.Members.{Inner, topAt, placeFrom, typeFrom, memberFrom, membersFor}
-use Rattle.resolution.specs.inner.Names.{nameOf, namedAt, hasChars, NameFits}
+use Rattle.resolution.specs.inner.Names.{nameOf, namedAt, hasChars, NamesLie}
+use Rattle.resolution.specs.inner.Chains.{markOf, lastOf, Chained}
 use Rattle.resolution.specs.inner.Searching.{Listed, allMembers, bare, Seeks}
 use Rattle.resolution.specs.declared.Search.the-variants.{Missing, Doubled, Found}
-use Rattle.resolution.proofs.Listing.{member-inner, member-name, member-name-fits}
+use Rattle.resolution.proofs.Listing.{member-inner, member-name, names-lie}
+use Rattle.resolution.proofs.Chaining.{same-mark, last-most, last-is, Follows, follows-head, follows-link}
 
 -- a member of the name x
 bare-matches : (x : List ℕ) (u : Tree) → matches (bare x) u ≡ hasChars x (nameOf u)
@@ -31,98 +31,132 @@ never-missing row e = let z : _≡_ {A = ℕ} 0 1 = cc in omega arith
 never-doubled : (row : Row) → Doubled ≡ Found row → ⊥
 never-doubled row e = let z : _≡_ {A = ℕ} 0 1 = cc in omega arith
 
--- What the loop keeps, i of the k members having been looked at, and `found` being the one of the name x, k where there is none so far.
-pub record SeekLoop (w : List ℕ) (k : ℕ) (x : List ℕ) (found i : ℕ) : Type 0 where
-  pub most : i ≤ k
-  pub range : found ≤ k
-  pub none : found ≡ k → (s : List ℕ) → namesakes (bare x) (allMembers w k s) ≡ namesakes (bare x) (membersFor w (topAt w) s i (k - i))
-  pub one : found < k → (s : List ℕ) → namesakes (bare x) (allMembers w k s) ≡ memberFrom w (topAt w) s found ∷ namesakes (bare x) (membersFor w (topAt w) s i (k - i))
+-- two members at the end are two at least
+two-found : (ms : List Member) (a b : Member) → searched ((ms ++ (a ∷ [])) ++ (b ∷ [])) ≡ Doubled
+unfolding searched
+two-found [] a b = refl
+two-found (m ∷ []) a b = refl
+two-found (m ∷ n ∷ ms) a b = refl
+
+-- the namesakes of two lists of members
+namesakes-append : (t : Tree) (ms ns : List Member) → namesakes t (ms ++ ns) ≡ namesakes t ms ++ namesakes t ns
+unfolding namesakes
+namesakes-append t [] ns = refl
+namesakes-append t (m ∷ ms) ns = go (matches t (m .type)) (namesakes-append t ms ns)
+  where
+    go : (b : Bool) → namesakes t (ms ++ ns) ≡ namesakes t ms ++ namesakes t ns
+        → cond b (m ∷ namesakes t (ms ++ ns)) (namesakes t (ms ++ ns)) ≡ cond b (m ∷ namesakes t ms) (namesakes t ms) ++ namesakes t ns
+    go true rest = ap (λ (l : List Member). m ∷ l) rest
+    go false rest = rest
+
+-- nothing after a list
+append-none : (ms : List Member) → ms ++ [] ≡ ms
+append-none [] = refl
+append-none (m ∷ ms) = ap (λ (l : List Member). m ∷ l) (append-none ms)
+
+-- one more member, at the end
+members-more : (w : List ℕ) (p : ℕ) (s : List ℕ) (i n : ℕ) → membersFor w p s i (suc n) ≡ membersFor w p s i n ++ (memberFrom w p s (i + n) ∷ [])
+unfolding membersFor
+members-more w p s i zero = ap (λ (j : ℕ). memberFrom w p s j ∷ []) (let z : i ≡ i + 0 = omega arith in z)
+members-more w p s i (suc n) =
+    ap (λ (l : List Member). memberFrom w p s i ∷ l)
+    (members-more w p s (suc i) n
+    ∙ ap (λ (j : ℕ). membersFor w p s (suc i) n ++ (memberFrom w p s j ∷ [])) (let z : suc i + n ≡ i + suc n = omega arith in z))
+
+-- the names that are listed lie in the bytes
+pub listed-lie : (w : List ℕ) (k : ℕ) (places names : List ℕ) → Listed w k places names → NamesLie w names k
+listed-lie w k places names listed = names-lie w k (topAt w) (listed .members) names (listed .naming)
 
 module _ (w : List ℕ) (k : ℕ) (places names x : List ℕ) (listed : Listed w k places names) where
-  pub seek-begin : SeekLoop w k x k 0
-  seek-begin = record {
-    most = omega arith;
-    range = omega arith;
-    none = λ _ s. ap (λ (n : ℕ). namesakes (bare x) (membersFor w (topAt w) s 0 n)) (sym (sub-zero k));
-    one = λ h. absurd (omega arith);
-  }
+  module _ (s : List ℕ) where
+    -- the namesakes among the first n members
+    abbrev upTo : ℕ → List Member
+    upTo n = namesakes (bare x) (membersFor w (topAt w) s 0 n)
 
-  module _ (found i : ℕ) (l : SeekLoop w k x found i) where
-    module _ (more : i < k) where
-      pub seek-fits : (z : ℕ) → z ≡ getD names i 0 → NameFits w z
-      seek-fits z e = subst (λ (y : ℕ). NameFits w y) (sym (e ∙ listed .naming .at i more)) (member-name-fits w k (topAt w) (listed .members) i more)
+    -- those up to the last of them
+    abbrev upToLast : ℕ → List Member
+    upToLast zero = []
+    upToLast (suc i) = upTo i ++ (memberFrom w (topAt w) s i ∷ [])
 
-      -- whether member i has the name
-      module _ (z : ℕ) (ez : z ≡ getD names i 0) (r : Bool) (er : r ≡ hasChars x (namedAt w z)) where
-        says : matches (bare x) (typeFrom w (topAt w) i) ≡ r
-        says =
-            bare-matches x (typeFrom w (topAt w) i)
-            ∙ sym (er ∙ ap (hasChars x) (ap (namedAt w) (ez ∙ listed .naming .at i more) ∙ member-name w k (topAt w) (listed .members) i more))
+    one-more : (i : ℕ) → i < k → upTo (suc i) ≡ cond (hasChars x (namedAt w (getD names i 0))) (upToLast (suc i)) (upTo i)
+    unfolding namesakes
+    one-more i more =
+        let here : matches (bare x) (typeFrom w (topAt w) i) ≡ hasChars x (namedAt w (getD names i 0)) =
+        bare-matches x (typeFrom w (topAt w) i)
+        ∙ sym (ap (hasChars x) (ap (namedAt w) (listed .naming .at i more) ∙ member-name w k (topAt w) (listed .members) i more)) in
+        ap (namesakes (bare x)) (members-more w (topAt w) s 0 i ∙ ap (λ (j : ℕ). membersFor w (topAt w) s 0 i ++ (memberFrom w (topAt w) s j ∷ [])) (let z : 0 + i ≡ i = omega arith in z))
+        ∙ namesakes-append (bare x) (membersFor w (topAt w) s 0 i) (memberFrom w (topAt w) s i ∷ [])
+        ∙ ap (λ (b : Bool). upTo i ++ cond b (memberFrom w (topAt w) s i ∷ []) []) here
+        ∙ go (hasChars x (namedAt w (getD names i 0)))
+      where
+        go : (b : Bool) → upTo i ++ cond b (memberFrom w (topAt w) s i ∷ []) [] ≡ cond b (upToLast (suc i)) (upTo i)
+        go true = refl
+        go false = append-none (upTo i)
 
-        abbrev rest : List ℕ → List Member
-        rest s = namesakes (bare x) (membersFor w (topAt w) s (i + 1) (k - (i + 1)))
+    up-to-last : (n : ℕ) → n ≤ k → upTo n ≡ upToLast (lastOf (hasChars x) w names n)
+    unfolding lastOf membersFor namesakes
+    up-to-last zero h = refl
+    up-to-last (suc i) h = one-more i (omega arith) ∙ go (hasChars x (namedAt w (getD names i 0))) (up-to-last i (omega arith))
+      where
+        go : (b : Bool) → upTo i ≡ upToLast (lastOf (hasChars x) w names i)
+            → cond b (upToLast (suc i)) (upTo i) ≡ upToLast (cond b (suc i) (lastOf (hasChars x) w names i))
+        go true before = refl
+        go false before = before
 
-        ahead : (s : List ℕ) → namesakes (bare x) (membersFor w (topAt w) s i (k - i)) ≡ cond r (memberFrom w (topAt w) s i ∷ rest s) (rest s)
-        unfolding membersFor namesakes
-        ahead s =
-            let one-less : k - i ≡ suc (k - (i + 1)) = omega arith in
-            ap (λ (n : ℕ). namesakes (bare x) (membersFor w (topAt w) s i n)) one-less
-            ∙ (λ j. cond (says j) (memberFrom w (topAt w) s i ∷ namesakes (bare x) (membersFor w (topAt w) s (sym (add-one i) j) (k - (i + 1))))
-            (namesakes (bare x) (membersFor w (topAt w) s (sym (add-one i) j) (k - (i + 1)))))
+  module _ (heads links : List ℕ) (chained : Chained w names k heads links) (m : ℕ) (em : m ≡ markOf x) (small : m < 256) (from : ℕ) (ef : from ≡ getD heads m 0) where
+    -- the search starts at the head of the mark
+    pub seek-head : Follows w names k k x from
+    seek-head = follows-head w names k x heads links chained m em small from ef
 
-        -- it has not
-        pub seek-other : r ≡ false → SeekLoop w k x found (i + 1)
-        seek-other e = record {
-          most = omega arith;
-          range = l .range;
-          none = λ h s. l .none h s ∙ ahead s ∙ ap (λ (b : Bool). cond b (memberFrom w (topAt w) s i ∷ rest s) (rest s)) e;
-          one = λ h s.
-              l .one h s
-              ∙ ap (λ (ms : List Member). memberFrom w (topAt w) s found ∷ ms) (ahead s ∙ ap (λ (b : Bool). cond b (memberFrom w (topAt w) s i ∷ rest s) (rest s)) e);
-        }
+    module _ (last : ℕ) (el : last ≡ lastOf (hasChars x) w names from) where
+      whole : last ≡ lastOf (hasChars x) w names k
+      whole = el ∙ sym (seek-head .same)
 
-        module _ (e : r ≡ true) where
-          -- it is the first
-          pub seek-first : k ≤ found → SeekLoop w k x i (i + 1)
-          seek-first h =
-              let none : found ≡ k = omega (arith, l .range) in
-              record {
-                most = omega arith;
-                range = omega arith;
-                none = λ e. absurd (omega arith);
-                one = λ _ s. l .none none s ∙ ahead s ∙ ap (λ (b : Bool). cond b (memberFrom w (topAt w) s i ∷ rest s) (rest s)) e;
-              }
-
-          -- it is the second
-          pub seek-doubled : found < k → Seeks w k x (record { found = Doubled; member = 0 })
-          unfolding searched
-          seek-doubled h = record {
-            found = λ s.
-                sym (ap searched (l .one h s
-                ∙ ap (λ (ms : List Member). memberFrom w (topAt w) s found ∷ ms) (ahead s ∙ ap (λ (b : Bool). cond b (memberFrom w (topAt w) s i ∷ rest s) (rest s)) e)));
-            which = λ row e. absurd (never-doubled row e);
-          }
-
-    -- all were looked at
-    module _ (done : k ≤ i) where
-      nothing : (s : List ℕ) → namesakes (bare x) (membersFor w (topAt w) s i (k - i)) ≡ []
-      unfolding membersFor namesakes
-      nothing s = ap (λ (n : ℕ). namesakes (bare x) (membersFor w (topAt w) s i n)) (let z : k - i ≡ 0 = omega arith in z)
-
-      pub seek-missing : found ≡ k → Seeks w k x (record { found = Missing; member = 0 })
+      pub seek-missing : last ≡ 0 → Seeks w k x (record { found = Missing; member = 0 })
       unfolding searched
-      seek-missing h = record { found = λ s. sym (ap searched (l .none h s ∙ nothing s)); which = λ row e. absurd (never-missing row e) }
+      seek-missing none = record {
+        found = λ s. sym (ap searched (up-to-last s k (omega arith) ∙ ap (upToLast s) (sym whole ∙ none)));
+        which = λ row e. absurd (never-missing row e);
+      }
 
-      module _ (some : found < k) where
-        pub seek-inner : (p : ℕ) → p ≡ getD places found 0 → Inner w p
-        seek-inner p e = subst (λ (q : ℕ). Inner w q) (sym (e ∙ listed .standing .at found some)) (member-inner w k (topAt w) (listed .members) found some)
+      module _ (some : last ≡ 0 → ⊥) where
+        pub seek-within : last - 1 < k
+        seek-within = omega (arith, some, whole, last-most w names (hasChars x) k)
 
-        pub seek-found : (p : ℕ) → p ≡ getD places found 0 → (row : Row) → row ≡ rowOf p 2 (typeAt w p)
-            → Seeks w k x (record { found = Found row; member = found })
-        unfolding searched
-        seek-found p ep row er =
-            let alone : (s : List ℕ) → namesakes (bare x) (allMembers w k s) ≡ memberFrom w (topAt w) s found ∷ [] =
-            λ s. l .one some s ∙ ap (λ (ms : List Member). memberFrom w (topAt w) s found ∷ ms) (nothing s) in
-            let is : row ≡ rowOf (placeFrom w (topAt w) found) 2 (typeFrom w (topAt w) found) =
-            er ∙ ap (λ (q : ℕ). rowOf q 2 (typeAt w q)) (ep ∙ listed .standing .at found some) in
-            record { found = λ s. ap Found is ∙ sym (ap searched (alone s)); which = λ r e. (some, alone) }
+        up-to-it : (s : List ℕ) → namesakes (bare x) (allMembers w k s) ≡ upTo s (last - 1) ++ (memberFrom w (topAt w) s (last - 1) ∷ [])
+        up-to-it s = up-to-last s k (omega arith) ∙ ap (upToLast s) (sym whole ∙ (let z : last ≡ suc (last - 1) = omega (arith, some) in z))
+
+        -- goes on before the last
+        module _ (next : ℕ) (en : next ≡ getD links (last - 1) 0) where
+          pub seek-link : Follows w names k (last - 1) x next
+          seek-link =
+              follows-link w names k x links (chained .linked) (last - 1) seek-within
+              (same-mark x _ (ap (λ (n : ℕ). hasChars x (namedAt w (getD names (n - 1) 0))) whole ∙ last-is w names (hasChars x) k (omega (arith, some, whole)))) next en
+
+          module _ (second : ℕ) (es : second ≡ lastOf (hasChars x) w names next) where
+            others : (s : List ℕ) → upTo s (last - 1) ≡ upToLast s second
+            others s = up-to-last s (last - 1) (omega (arith, seek-within)) ∙ ap (upToLast s) (seek-link .same ∙ sym es)
+
+            pub seek-doubled : (second ≡ 0 → ⊥) → Seeks w k x (record { found = Doubled; member = 0 })
+            seek-doubled more = record {
+              found = λ s.
+                  sym (ap searched (up-to-it s ∙ ap (λ (l : List Member). l ++ (memberFrom w (topAt w) s (last - 1) ∷ [])) (others s ∙ ap (upToLast s) (let z : second ≡ suc (second - 1) = omega (arith, more) in z)))
+                  ∙ two-found (upTo s (second - 1)) _ _);
+              which = λ row e. absurd (never-doubled row e);
+            }
+
+            -- and ends with it
+            module _ (alone : second ≡ 0) where
+              pub seek-inner : (p : ℕ) → p ≡ getD places (last - 1) 0 → Inner w p
+              seek-inner p e =
+                  subst (λ (q : ℕ). Inner w q) (sym (e ∙ listed .standing .at (last - 1) seek-within)) (member-inner w k (topAt w) (listed .members) (last - 1) seek-within)
+
+              pub seek-found : (p : ℕ) → p ≡ getD places (last - 1) 0 → (row : Row) → row ≡ rowOf p 2 (typeAt w p)
+                  → Seeks w k x (record { found = Found row; member = last - 1 })
+              unfolding searched
+              seek-found p ep row er =
+                  let it : (s : List ℕ) → namesakes (bare x) (allMembers w k s) ≡ memberFrom w (topAt w) s (last - 1) ∷ [] =
+                  λ s. up-to-it s ∙ ap (λ (l : List Member). l ++ (memberFrom w (topAt w) s (last - 1) ∷ [])) (others s ∙ ap (upToLast s) alone) in
+                  let is : row ≡ rowOf (placeFrom w (topAt w) (last - 1)) 2 (typeFrom w (topAt w) (last - 1)) =
+                  er ∙ ap (λ (q : ℕ). rowOf q 2 (typeAt w q)) (ep ∙ listed .standing .at (last - 1) seek-within) in
+                  record { found = λ s. ap Found is ∙ sym (ap searched (it s)); which = λ r e. (seek-within, it) }

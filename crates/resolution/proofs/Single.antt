@@ -1,10 +1,10 @@
 -- The row of one descriptor that stands somewhere, and its name by its place. Rests on the descriptor crate's laws of what stands where.
 use mathlib.Core.Path.{_≡_, refl, sym, ap, subst, _∙_}
-use mathlib.Core.Bool.{cond, _||_}
+use mathlib.Core.Bool.{Bool, cond, _||_}
 use mathlib.Core.List.{List}
 use Prim.Native.Nat.{ℕ, zero, suc, _+_, _-_, _%_, _≤_, _<_}
 use native.Mathlib.Omega.{arith}
-use borrow.Author.Tests.{eqb-true}
+use borrow.Author.Tests.{eq-eqb, ne-eqb, eqb-true}
 use lib.Dec.{eqb}
 use lib.ListN.{length, getD}
 use lib.Seq.{slice}
@@ -17,6 +17,7 @@ use Rattle.descriptor.specs.Check.{nameAt}
 use Rattle.descriptor.specs.Table.{namePlace, rowOf}
 use Rattle.descriptor.specs.inner.Standing.{standing, standingRow, isRead, nextOf, forestOf, fieldsOf, shapeOf}
 use Rattle.descriptor.specs.inner.Filling.{rowRead, RowPre}
+use Rattle.descriptor.specs.declared.answer.Row.{Row}
 use Rattle.descriptor.specs.declared.inside.Inside.{Inside}
 use Rattle.descriptor.proofs.Bodies.{Seen, seen}
 use Rattle.descriptor.proofs.Filling.{name-numbers, fields-count}
@@ -128,6 +129,17 @@ module _ (d : List ℕ) (p : ℕ) (inner : Inner d p) where
               «name_length» = ((λ j. cond (eqb (ends j) (stop j)) 0 (getD d (ends j) 0)) ∙ numbers .1) i;
             })
             ∙ ap (λ (t : Tree). rowOf p 2 t) (sym type-is)
+
+        -- whose name, by its place, is none where nothing is left, and else starts after its length
+        place-is : cond (eqb at (p + size)) 0 (at + 1) ≡ rowOf p 2 (typeAt d p) .«name_place»
+        unfolding rowRead
+        place-is = ap (λ (r : Row). r .«name_place») (single-is (codeIn d p) refl)
+
+        pub single-unnamed : at ≡ p + size → 0 ≡ rowOf p 2 (typeAt d p) .«name_place»
+        single-unnamed e = sym (ap (λ (b : Bool). cond b 0 (at + 1)) (eq-eqb at (p + size) e)) ∙ place-is
+
+        pub single-named : (at ≡ p + size → ⊥) → at + 1 ≡ rowOf p 2 (typeAt d p) .«name_place»
+        single-named e = sym (ap (λ (b : Bool). cond b 0 (at + 1)) (ne-eqb at (p + size) e)) ∙ place-is
 
   placed : Placed d (rowOf p 2 tree .«name_place») (it .name)
   unfolding rowOf

@@ -17,14 +17,13 @@ use Rattle.descriptor.proofs.Outcomes.{holds-read}
 use Rattle.descriptor.proofs.Steps.{impossible}
 use Rattle.flattened.specs.Order.{big}
 use Rattle.flattened.specs.Token.{Token}
-use Rattle.flattened.specs.Walk.{follow, repeat, walk, walkAll}
+use Rattle.flattened.specs.Walk.{follow, walk, walkAll}
 use Rattle.flattened.specs.inner.Progress.{progress}
 use Rattle.flattened.specs.inner.Types.{typeAt, typesAt, TypeStands, DataAt}
 use Rattle.flattened.specs.declared.cursor.Cursor.{Cursor}
 use Rattle.flattened.specs.declared.progress.Progress.the-variants.{Walked, Refused}
 use Rattle.flattened.proofs.Forward.{walk-forward}
 use Rattle.flattened.proofs.Progresses.{progress-reads, progress-refused}
-use Rattle.flattened.proofs.Repeats.{repeat-one}
 use Rattle.flattened.proofs.Types.{type-solid}
 use Rattle.resolution.specs.inner.Members.{Members, placeFrom, typeFrom, dataFrom, Column, Starts}
 use Rattle.resolution.proofs.Filled.{column-none, column-more}
@@ -87,18 +86,18 @@ module _ (d : List ℕ) (k start : ℕ) (s : List ℕ) (all : Members d k start)
           ∙ (λ j. walkStep (walkAll big (cons (typeAt d (sym (l .place) j)) (typesAt d (k - (i + 1)) (placeFrom d start (i + 1)))) s at))
 
       -- is refused
-      pub walk-lost : (number place : ℕ) → Refused number place ≡ progress (repeat (λ a. walk big (typeAt d p) s a) 1 at)
+      pub walk-lost : (number place : ℕ) → Refused number place ≡ progress (walk big (typeAt d p) s at)
           → refusedStep number place ≡ walkStep (walkAll big (typesAt d k start) s 0)
       walk-lost number place e =
-          let one = progress-refused (walk big (typeAt d p) s at) number place (e ∙ ap progress (repeat-one (λ a. walk big (typeAt d p) s a) at)) in
+          let one = progress-refused (walk big (typeAt d p) s at) number place e in
           sym (split ∙ ap (λ (o : Outcome (List Token)). walkStep (follow o (λ a. walkAll big (typesAt d (k - (i + 1)) (placeFrom d start (i + 1))) s a))) one)
 
       -- or is walked
-      pub walk-again : (c : Cursor) (tokens : ℕ) → Walked c tokens ≡ progress (repeat (λ a. walk big (typeAt d p) s a) 1 at)
+      pub walk-again : (c : Cursor) (tokens : ℕ) → Walked c tokens ≡ progress (walk big (typeAt d p) s at)
           → (q : ℕ) → q ≡ p + sizeIn d p → i < 257 → WalkLoop d k start s (set starts i at) q (c .at) (i + 1)
       unfolding nextOf
       walk-again c tokens e q there room =
-          let reads = progress-reads (walk big (typeAt d p) s at) c tokens (e ∙ ap progress (repeat-one (λ a. walk big (typeAt d p) s a) at)) in
+          let reads = progress-reads (walk big (typeAt d p) s at) c tokens e in
           let ends = holds-read (reads .eq) (walk-forward s (typeAt d p) (type-solid d p depthLimit walk-type) big at (l .bytes .inside)) in
           let next : q ≡ placeFrom d start (i + 1) = there ∙ ap (λ (x : ℕ). x + sizeIn d x) (l .place) ∙ sym (place-more d start i) in
           record {

@@ -1,5 +1,6 @@
 pub mod Members
 pub mod Names
+pub mod Chains
 pub mod Searching
 pub mod Picking
 pub mod Tops

@@ -1,5 +1,5 @@
 // The members of a cluster, in columns: where each one's descriptor stands, and where its name does.
-use super::rows::member_row;
+use super::rows::name_place;
 use descriptor::header::size_at;
 ghost use mathlib.Core.Path.{_≡_};
 ghost use lib.ListN.{length};
@@ -36,10 +36,10 @@ pub fn list_members(
     let mut p = start;
     let mut i = 0;
     while i < k {
-        let row = member_row(d, p);
-        places[i] = row.start;
-        names[i] = row.name_place;
-        p += size_at(d, p);
+        let size = size_at(d, p);
+        places[i] = p as u16;
+        names[i] = name_place(d, p, size);
+        p += size;
         i += 1;
     }
 }

@@ -1,4 +1,5 @@
 // What a record in a reader's shape is made of: the members by name and type, and their bytes.
+pub mod chains;
 pub mod columns;
 pub mod data;
 pub mod equality;

@@ -1,4 +1,6 @@
 // Names by their places: "Names match by bytes".
+use super::chains::chain;
+use super::chains::last_namesake;
 use super::columns::wide;
 use descriptor::step::Step;
 use descriptor::step::accept;
@@ -6,12 +8,11 @@ use descriptor::step::refuse;
 ghost use mathlib.Core.Path.{_≡_};
 ghost use mathlib.Core.List.{[]};
 ghost use Prim.Native.Nat.{_<_};
-ghost use lib.ListN.{getD};
 ghost use Rattle.descriptor.specs.inner.Steps.{counted};
 ghost use Rattle.flattened.specs.inner.Types.{typesAt};
-ghost use Rattle.resolution.specs.Record.{isAmong, readerNames};
+ghost use Rattle.resolution.specs.Record.{readerNames};
 ghost use Rattle.resolution.specs.inner.Members.{Members, topAt, nameFrom, Column};
-ghost use Rattle.resolution.specs.inner.Names.{NameFits, NamesFit, AllNamed, charsAt, namedAt, hasChars, seenNames};
+ghost use Rattle.resolution.specs.inner.Names.{NameFits, AllNamed, charsAt, namedAt, hasChars};
 
 // Whether the name at x of a is the one at y of b: the lengths first, then the characters. Where x is 0 there is no name.
 pub fn same_name(a: &[u8], x: usize, b: &[u8], y: usize) -> bool
@@ -27,22 +28,6 @@ pub fn same_name(a: &[u8], x: usize, b: &[u8], y: usize) -> bool
     check::same(&b[y..second], &a[x..first])
 }
 
-// Whether the name of member j is an earlier member's.
-fn is_earlier(d: &[u8], names: &[u16; 256], j: usize) -> bool
-    requires { ⌜ NamesFit (now d) (now names) j ⌝ }
-    ensures { λ r. ⌜ r ≡ isAmong (charsAt (now (d .entry)) (getD (now (names .entry)) j 0)) (seenNames (now (d .entry)) (now (names .entry)) j) ⌝ }
-{
-    let y = wide(names[j]);
-    let mut i = j;
-    while 0 < i {
-        i -= 1;
-        if same_name(d, wide(names[i]), d, y) {
-            return true;
-        }
-    }
-    false
-}
-
 // The names of the k members of d: 40 where one is "missing, empty or an earlier member's".
 pub fn check_names(d: &[u8], k: usize, names: &[u16; 256]) -> Step
     requires { ⌜ Members (now d) k (topAt (now d)) ⌝ }
@@ -50,6 +35,9 @@ pub fn check_names(d: &[u8], k: usize, names: &[u16; 256]) -> Step
     ensures judged { λ r. ⌜ r ≡ counted (λ _. 0) (readerNames [] 0 (typesAt (now (d .entry)) k (topAt (now (d .entry))))) ⌝ }
     ensures named { λ r. ⌜ AllNamed k (now (names .entry)) r ⌝ }
 {
+    let mut heads = [0u16; 256];
+    let mut links = [0u16; 256];
+    chain(d, k, names, &mut heads, &mut links);
     let mut j = 0;
     while j < k {
         let x = wide(names[j]);
@@ -59,7 +47,8 @@ pub fn check_names(d: &[u8], k: usize, names: &[u16; 256]) -> Step
         if d[x - 1] == 0 {
             return refuse(40, j);
         }
-        if is_earlier(d, names, j) {
+        let before = wide(links[j]);
+        if last_namesake(d, k, names, &links, before, d, x) != 0 {
             return refuse(40, j);
         }
         j += 1;

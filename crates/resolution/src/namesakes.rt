@@ -1,12 +1,14 @@
 // The search for a name among the rig's members.
 use super::Search;
+use super::chains::last_namesake;
+use super::chains::mark;
 use super::columns::wide;
-use super::names::same_name;
 use super::rows::member_row;
 ghost use mathlib.Core.Path.{_≡_};
 ghost use Prim.Native.Nat.{_<_};
 ghost use Rattle.resolution.specs.Record.{searchNumber};
 ghost use Rattle.resolution.specs.inner.Names.{NameFits, charsAt};
+ghost use Rattle.resolution.specs.inner.Chains.{Chained};
 ghost use Rattle.resolution.specs.inner.Searching.{Listed, Seeks};
 
 // What a search finds, and the number of the member where it finds one.
@@ -21,37 +23,34 @@ pub fn search(
     k: usize,
     places: &[u16; 256],
     names: &[u16; 256],
+    heads: &[u16; 256],
+    links: &[u16; 256],
     r: &[u8],
     y: usize,
 ) -> Sought
     requires { ⌜ Listed (now w) k (now places) (now names) ⌝ }
+    requires { ⌜ Chained (now w) (now names) k (now heads) (now links) ⌝ }
     requires { ⌜ (0 < y) × NameFits (now r) y ⌝ }
     ensures { λ x. ⌜ Seeks (now (w .entry)) k (charsAt (now (r .entry)) y) x ⌝ }
 {
-    let mut found = k;
-    let mut i = 0;
-    while i < k {
-        if same_name(w, wide(names[i]), r, y) {
-            if found < k {
-                return Sought {
-                    found: Search::Doubled,
-                    member: 0,
-                };
-            }
-            found = i;
-        }
-        i += 1;
-    }
-    if found == k {
+    let last = last_namesake(w, k, names, links, wide(heads[mark(r, y)]), r, y);
+    if last == 0 {
         return Sought {
             found: Search::Missing,
             member: 0,
         };
     }
-    let row = member_row(w, wide(places[found]));
+    let member = last - 1;
+    if last_namesake(w, k, names, links, wide(links[member]), r, y) != 0 {
+        return Sought {
+            found: Search::Doubled,
+            member: 0,
+        };
+    }
+    let row = member_row(w, wide(places[member]));
     Sought {
         found: Search::Found(row),
-        member: found,
+        member,
     }
 }
 

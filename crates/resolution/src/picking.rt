@@ -1,5 +1,6 @@
 // The rig's members that a reader's members are read from.
 use super::Search;
+use super::chains::chain;
 use super::columns::position;
 use super::columns::wide;
 use super::equality::same_type;
@@ -11,6 +12,7 @@ use descriptor::step::refuse;
 ghost use mathlib.Core.Path.{_≡_};
 ghost use lib.ListN.{length};
 ghost use Rattle.flattened.specs.inner.Types.{typeAt};
+ghost use Rattle.resolution.specs.inner.Chains.{Chained};
 ghost use Rattle.resolution.specs.inner.Searching.{Listed};
 ghost use Rattle.resolution.specs.inner.Picking.{Called, Picks, Naming, Ascends, Plans};
 
@@ -20,16 +22,19 @@ fn pick(
     k: usize,
     places: &[u16; 256],
     names: &[u16; 256],
+    heads: &[u16; 256],
+    links: &[u16; 256],
     r: &[u8],
     q: usize,
     y: usize,
     j: usize,
 ) -> Step
     requires { ⌜ Listed (now w) k (now places) (now names) ⌝ }
+    requires { ⌜ Chained (now w) (now names) k (now heads) (now links) ⌝ }
     requires { ⌜ Called (now r) q y ⌝ }
     ensures { λ x. ⌜ Picks (now (w .entry)) k (typeAt (now (r .entry)) q) j x ⌝ }
 {
-    let sought = search(w, k, places, names, r, y);
+    let sought = search(w, k, places, names, heads, links, r, y);
     let found = sought.found;
     let Search::Found(row) = found else {
         return refuse(search_number(found), j);
@@ -61,10 +66,15 @@ pub fn pick_all(
     requires { ⌜ length (now picks) ≡ 256 ⌝ }
     ensures { λ x. ⌜ Plans (now (w .entry)) k (now (r .entry)) n (now (starts .entry)) (now (picks .exit)) x ⌝ }
 {
+    let mut heads = [0u16; 256];
+    let mut links = [0u16; 256];
+    chain(w, k, names, &mut heads, &mut links);
     let mut total = 0;
     let mut j = 0;
     while j < n {
-        let p = pick(w, k, places, names, r, wide(reading[j]), wide(called[j]), j);
+        let q = wide(reading[j]);
+        let y = wide(called[j]);
+        let p = pick(w, k, places, names, &heads, &links, r, q, y, j);
         if !p.ok {
             return p;
         }

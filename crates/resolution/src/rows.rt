@@ -1,4 +1,4 @@
-// The row of a member.
+// The row of a member, and its name's place.
 use descriptor::answer::Row;
 use descriptor::header::code_at;
 use descriptor::header::size_at;
@@ -6,6 +6,7 @@ use tabulation::table::row_at;
 use tabulation::table::shape;
 ghost use mathlib.Core.Path.{_≡_};
 ghost use Rattle.descriptor.specs.Limits.{depthLimit};
+ghost use Rattle.descriptor.specs.Header.{sizeIn};
 ghost use Rattle.descriptor.specs.Table.{rowOf};
 ghost use Rattle.descriptor.specs.inner.Standing.{standingRow, nextOf};
 ghost use Rattle.flattened.specs.inner.Types.{typeAt, RowStands};
@@ -26,6 +27,20 @@ fn row_end(d: &[u8], k: usize, start: usize) -> usize
         i += 1;
     }
     p
+}
+
+// The place of the name of the member whose descriptor stands at p, 0 where it has none.
+pub fn name_place(d: &[u8], p: usize, size: usize) -> u16
+    requires { ⌜ Inner (now d) p ⌝ }
+    requires { ⌜ size ≡ sizeIn (now d) p ⌝ }
+    ensures { λ r. ⌜ r ≡ rowOf p 2 (typeAt (now (d .entry)) p) .«name_place» ⌝ }
+{
+    let inside = shape(d, p, p + size);
+    let at = row_end(d, inside.children, inside.at);
+    if at == p + size {
+        return 0;
+    }
+    (at + 1) as u16
 }
 
 // The row of the member whose descriptor stands at p.

@@ -33,11 +33,10 @@ pub record NameFits (d : List ℕ) (x : ℕ) : Type 0 where
   pub within : 0 < x → x + getD d (x - 1) 0 ≤ length d
   pub short : length d ≤ descriptorLimit
 
--- the names of the members up to j are there
-pub record NamesFit (d names : List ℕ) (j : ℕ) : Type 0 where
-  pub few : j < rowLimit
-  pub fit : (i : ℕ) → i ≤ j → NameFits d (getD names i 0)
-  pub some : (i : ℕ) → i ≤ j → 0 < getD names i 0
+-- the names of the first n members lie in the bytes
+pub record NamesLie (d names : List ℕ) (n : ℕ) : Type 0 where
+  pub few : n ≤ rowLimit
+  pub fit : (i : ℕ) → i < n → NameFits d (getD names i 0)
 
 -- where the check r finds no fault, each of the k members has a name; else the place is one of them
 pub record AllNamed (k : ℕ) (names : List ℕ) (r : Step) : Type 0 where

@@ -18,11 +18,17 @@ abbrev μ-loop : tie.MeasureT-loop
 loop-holds : tie.Need-loop-holds Inv-loop μ-loop
 loop-holds c = let b = c .before in list-begin (now (b .args .d)) (b .args .k) (b .args .start) (b .pre .0) (now (b .args .places)) (now (b .args .names)) (b .pre .1 .0) (b .pre .1 .1)
 
-member-row-requires : tie.Need-member-row-requires Inv-loop μ-loop
-member-row-requires c κs =
+size-at-requires : tie.Need-size-at-requires Inv-loop μ-loop
+size-at-requires c κs =
     let b = c .before .before .before in
     let l = c .before .loop in
-    list-inner (now (b .args .d)) (b .args .k) (b .args .start) (b .pre .0) (l .places) (l .names) (l .p) (l .i) (l .inv) (c .loop-test .taken)
+    header-room (now (b .args .d)) (l .p) (list-inner (now (b .args .d)) (b .args .k) (b .args .start) (b .pre .0) (l .places) (l .names) (l .p) (l .i) (l .inv) (c .loop-test .taken) .here)
+
+cast-places : tie.Need-cast-places Inv-loop μ-loop
+cast-places c =
+    let b = c .before .before .before .before in
+    let l = c .before .before .loop in
+    omega (arith, list-size (now (b .args .d)) (b .args .k) (b .args .start) (b .pre .0) (l .places) (l .names) (l .p) (l .i) (l .inv) (c .before .loop-test .taken), b .pre .0 .short)
 
 mul-places : tie.Need-mul-places Inv-loop μ-loop
 mul-places c = omega (arith, c .before .loop-test .taken, c .before .before .before .before .pre .0 .few)
@@ -30,23 +36,23 @@ mul-places c = omega (arith, c .before .loop-test .taken, c .before .before .bef
 element-write-places : tie.Need-element-write-places Inv-loop μ-loop
 element-write-places c = omega (arith, c .before .loop-test .taken, c .before .before .before .before .pre .0 .few)
 
-mul-names : tie.Need-mul-names Inv-loop μ-loop
-mul-names c = omega (arith, c .before .loop-test .taken, c .before .before .before .before .pre .0 .few)
-
-element-write-names : tie.Need-element-write-names Inv-loop μ-loop
-element-write-names c = omega (arith, c .before .loop-test .taken, c .before .before .before .before .pre .0 .few)
-
-size-at-requires : tie.Need-size-at-requires Inv-loop μ-loop
-size-at-requires c κs =
+name-place-requires : tie.Need-name-place-requires Inv-loop μ-loop
+name-place-requires c κs =
     let b = c .before .before .before .before in
     let l = c .before .before .loop in
-    header-room (now (b .args .d)) (l .p) (list-inner (now (b .args .d)) (b .args .k) (b .args .start) (b .pre .0) (l .places) (l .names) (l .p) (l .i) (l .inv) (c .before .loop-test .taken) .here)
+    (list-inner (now (b .args .d)) (b .args .k) (b .args .start) (b .pre .0) (l .places) (l .names) (l .p) (l .i) (l .inv) (c .before .loop-test .taken), c .size-at .ensures .eq)
+
+mul-names : tie.Need-mul-names Inv-loop μ-loop
+mul-names c = omega (arith, c .before .before .loop-test .taken, c .before .before .before .before .before .pre .0 .few)
+
+element-write-names : tie.Need-element-write-names Inv-loop μ-loop
+element-write-names c = omega (arith, c .before .before .loop-test .taken, c .before .before .before .before .before .pre .0 .few)
 
 add-p : tie.Need-add-p Inv-loop μ-loop
 add-p c =
     let b = c .before .before .before .before .before in
     let l = c .before .before .before .loop in
-    omega (arith, list-size (now (b .args .d)) (b .args .k) (b .args .start) (b .pre .0) (l .places) (l .names) (l .p) (l .i) (l .inv) (c .before .before .loop-test .taken), c .size-at .ensures .eq, b .pre .0 .short)
+    omega (arith, list-size (now (b .args .d)) (b .args .k) (b .args .start) (b .pre .0) (l .places) (l .names) (l .p) (l .i) (l .inv) (c .before .before .loop-test .taken), c .before .size-at .ensures .eq, b .pre .0 .short)
 
 add-i : tie.Need-add-i Inv-loop μ-loop
 add-i c = search needs
@@ -59,7 +65,7 @@ loop-again c =
     let b = c .before .before .before .before .before in
     let l = c .before .before .before .loop in
     let more = c .before .before .loop-test .taken in
-    list-again (now (b .args .d)) (b .args .k) (b .args .start) (b .pre .0) (l .places) (l .names) (l .p) (l .i) (l .inv) more _ (c .before .member-row .ensures) _ (ap (λ (x : ℕ). l .p + x) (c .size-at .ensures .eq)) (omega (arith, more, b .pre .0 .few))
+    list-again (now (b .args .d)) (b .args .k) (b .args .start) (b .pre .0) (l .places) (l .names) (l .p) (l .i) (l .inv) more _ (c .name-place .ensures) _ (ap (λ (x : ℕ). l .p + x) (c .before .size-at .ensures .eq)) (omega (arith, more, b .pre .0 .few))
 
 returns : tie.Need-returns Inv-loop μ-loop
 returns c =
@@ -76,12 +82,13 @@ list-members-spec =
     Inv-loop
     μ-loop
     loop-holds
-    member-row-requires
+    size-at-requires
+    cast-places
     mul-places
     element-write-places
+    name-place-requires
     mul-names
     element-write-names
-    size-at-requires
     add-p
     add-i
     loop-less

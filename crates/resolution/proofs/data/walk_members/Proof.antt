@@ -5,7 +5,6 @@ use native.Mathlib.Omega.{arith}
 use denote.Ref.{now}
 use borrow.Author.Needs.{needs}
 use Rattle.descriptor.proofs.Bodies.{header-room}
-use Rattle.flattened.specs.inner.Order.{orderOf}
 use Rattle.resolution.proofs.Walking.{WalkLoop, walk-begin, walk-type, walk-size, walk-lost, walk-again, walk-done, walk-starts, refused-starts}
 use Rattle.resolution.proofs.data.walk_members.Statement.{statement}
 use Rattle.resolution.proofs.data.walk_members.Tie as tie
@@ -30,8 +29,8 @@ mul-starts c = let b = c .before .before .before .before .before in omega (arith
 element-write-starts : tie.Need-element-write-starts Inv-loop μ-loop
 element-write-starts c = let b = c .before .before .before .before .before in omega (arith, c .before .loop-test .taken, b .pre .0 .few)
 
-walk-requires : tie.Need-walk-requires Inv-loop μ-loop
-walk-requires c κs =
+walk-member-requires : tie.Need-walk-member-requires Inv-loop μ-loop
+walk-member-requires c κs =
     let b = c .before .before .before .before .before in
     let l = c .before .before .loop in
     (walk-type (now (b .args .d)) (b .args .k) (b .args .start) (now (b .args .s)) (b .pre .0) (l .starts) (l .p) (l .next .at) (l .i) (l .inv) (c .before .loop-test .taken), l .inv .bytes)
@@ -43,12 +42,11 @@ refuse-requires : tie.Need-refuse-requires Inv-loop μ-loop
 refuse-requires c κs = search needs
 
 returns : tie.Need-returns Inv-loop μ-loop
-unfolding orderOf
 returns c =
     let b = c .before .before .before .before .before .before .before .before .before .before in
     let l = c .before .before .before .before .before .before .before .loop in (
       c .refuse .ensures ∙ walk-lost (now (b .args .d)) (b .args .k) (b .args .start) (now (b .args .s)) (b .pre .0) (l .starts) (l .p) (l .next .at) (l .i) (l .inv) (c .before .before .before .before .before .before .loop-test .taken) _ _
-          (sym (c .before .before .r .given .1) ∙ c .before .before .before .before .walk .ensures),
+          (sym (c .before .before .r .given .1) ∙ c .before .before .before .before .walk-member .ensures),
       refused-starts _ _ _ _ _ _ (c .refuse .ensures),
     )
 
@@ -74,13 +72,12 @@ loop-less : tie.Need-loop-less Inv-loop μ-loop
 loop-less c = search needs
 
 loop-again : tie.Need-loop-again Inv-loop μ-loop
-unfolding orderOf
 loop-again c =
     let b = c .before .before .before .before .before .before .before .before .before .before in
     let l = c .before .before .before .before .before .before .before .loop in
     let more = c .before .before .before .before .before .before .loop-test .taken in
     walk-again (now (b .args .d)) (b .args .k) (b .args .start) (now (b .args .s)) (b .pre .0) (l .starts) (l .p) (l .next .at) (l .i) (l .inv) more _ _
-    (sym (c .before .before .r2 .given .1) ∙ c .before .before .before .before .walk .ensures) _ (ap (λ (x : ℕ). l .p + x) (c .size-at .ensures .eq)) (omega (arith, more, b .pre .0 .few))
+    (sym (c .before .before .r2 .given .1) ∙ c .before .before .before .before .walk-member .ensures) _ (ap (λ (x : ℕ). l .p + x) (c .size-at .ensures .eq)) (omega (arith, more, b .pre .0 .few))
 
 cast-starts-2 : tie.Need-cast-starts-2 Inv-loop μ-loop
 cast-starts-2 c = let l = c .before .loop in omega (arith, l .inv .bytes .inside, l .inv .bytes .short)
@@ -112,7 +109,7 @@ walk-members-spec =
     cast-starts
     mul-starts
     element-write-starts
-    walk-requires
+    walk-member-requires
     enum-known-r
     refuse-requires
     returns

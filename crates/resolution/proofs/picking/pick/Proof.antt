@@ -13,7 +13,7 @@ use Rattle.resolution.proofs.picking.pick.Tie as tie
 search-requires : tie.Need-search-requires
 search-requires c κs =
     let b = c .before .before in
-    (b .pre .0, (b .pre .1 .some, b .pre .1 .fits))
+    (b .pre .0, (b .pre .1 .0, (b .pre .1 .1 .some, b .pre .1 .1 .fits)))
 
 enum-known-found : tie.Need-enum-known-found
 enum-known-found c = search needs
@@ -30,7 +30,7 @@ returns c =
     let w = now (b .args .w) in
     let r = now (b .args .r) in
     let sought = c .before .before .before .search in
-    pick-none w (b .args .k) (typeAt r (b .args .q)) (b .args .j) (now (b .args .places)) (now (b .args .names)) (charsAt r (b .args .y)) (b .pre .0) (called-so r (b .args .q) (b .args .y) (b .pre .1)) (sought .result) (sought .ensures) (λ row e. miss (0 ∷ 1 ∷ []) 2 tt (rw e at (c .before .before .match .keys2))) _ (c .before .search-number .ensures) _ (c .refuse .ensures)
+    pick-none w (b .args .k) (typeAt r (b .args .q)) (b .args .j) (now (b .args .places)) (now (b .args .names)) (charsAt r (b .args .y)) (b .pre .0) (called-so r (b .args .q) (b .args .y) (b .pre .1 .1)) (sought .result) (sought .ensures) (λ row e. miss (0 ∷ 1 ∷ []) 2 tt (rw e at (c .before .before .match .keys2))) _ (c .before .search-number .ensures) _ (c .refuse .ensures)
 
 wide-requires : tie.Need-wide-requires
 wide-requires c κs = search needs
@@ -41,7 +41,7 @@ same-type-requires c κs =
     let w = now (b .args .w) in
     let r = now (b .args .r) in
     let sought = c .before .before .before .before .search in
-    (b .pre .1 .inner, pick-inner w (b .args .k) (typeAt r (b .args .q)) (b .args .j) (now (b .args .places)) (now (b .args .names)) (charsAt r (b .args .y)) (b .pre .0) (called-so r (b .args .q) (b .args .y) (b .pre .1)) (sought .result) (sought .ensures) _ (c .before .before .found .given .1) _ (c .wide .ensures .eq))
+    (b .pre .1 .1 .inner, pick-inner w (b .args .k) (typeAt r (b .args .q)) (b .args .j) (now (b .args .places)) (now (b .args .names)) (charsAt r (b .args .y)) (b .pre .0) (called-so r (b .args .q) (b .args .y) (b .pre .1 .1)) (sought .result) (sought .ensures) _ (c .before .before .found .given .1) _ (c .wide .ensures .eq))
 
 refuse-requires-2 : tie.Need-refuse-requires-2
 refuse-requires-2 c κs = search needs
@@ -52,7 +52,7 @@ returns-2 c =
     let w = now (b .args .w) in
     let r = now (b .args .r) in
     let sought = c .before .before .before .before .before .before .before .search in
-    pick-other w (b .args .k) (typeAt r (b .args .q)) (b .args .j) (now (b .args .places)) (now (b .args .names)) (charsAt r (b .args .y)) (b .pre .0) (called-so r (b .args .q) (b .args .y) (b .pre .1)) (sought .result) (sought .ensures) _ (c .before .before .before .before .before .found .given .1) _ (c .before .before .before .wide .ensures .eq) _ (c .before .before .same-type .ensures) (not-true _ (c .before .if1 .taken)) _ (c .refuse2 .ensures)
+    pick-other w (b .args .k) (typeAt r (b .args .q)) (b .args .j) (now (b .args .places)) (now (b .args .names)) (charsAt r (b .args .y)) (b .pre .0) (called-so r (b .args .q) (b .args .y) (b .pre .1 .1)) (sought .result) (sought .ensures) _ (c .before .before .before .before .before .found .given .1) _ (c .before .before .before .wide .ensures .eq) _ (c .before .before .same-type .ensures) (not-true _ (c .before .if1 .taken)) _ (c .refuse2 .ensures)
 
 accept-requires : tie.Need-accept-requires
 accept-requires c κs = search needs
@@ -63,7 +63,7 @@ returns-3 c =
     let w = now (b .args .w) in
     let r = now (b .args .r) in
     let sought = c .before .before .before .before .before .before .before .search in
-    pick-same w (b .args .k) (typeAt r (b .args .q)) (b .args .j) (now (b .args .places)) (now (b .args .names)) (charsAt r (b .args .y)) (b .pre .0) (called-so r (b .args .q) (b .args .y) (b .pre .1)) (sought .result) (sought .ensures) _ (c .before .before .before .before .before .found .given .1) _ (c .before .before .before .wide .ensures .eq) _ (c .before .before .same-type .ensures) (not-false _ (c .before .if1 .left)) _ _ (c .accept .ensures)
+    pick-same w (b .args .k) (typeAt r (b .args .q)) (b .args .j) (now (b .args .places)) (now (b .args .names)) (charsAt r (b .args .y)) (b .pre .0) (called-so r (b .args .q) (b .args .y) (b .pre .1 .1)) (sought .result) (sought .ensures) _ (c .before .before .before .before .before .found .given .1) _ (c .before .before .before .wide .ensures .eq) _ (c .before .before .same-type .ensures) (not-false _ (c .before .if1 .left)) _ _ (c .accept .ensures)
 
 pub pick-spec : {M : Type 1} → statement M
 pick-spec =
