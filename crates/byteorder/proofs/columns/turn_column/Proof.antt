@@ -1,65 +1,105 @@
--- `turn_column` meets its contract. The invariant: with the numbers that are left, the output becomes what is promised.
-use Prim.Native.Nat.{_-_}
+-- `turn_column` meets its contract: one loop for each of the five widths.
+use mathlib.Core.Path.{_≡_, sym, ap, subst, _∙_}
+use mathlib.Core.List.{List}
+use Prim.Native.Nat.{ℕ, _+_}
 use native.Mathlib.Omega.{arith}
 use denote.Ref.{now}
-use Rattle.byteorder.proofs.ColumnTurns.{ColumnLoop, column-begin, column-here, column-next, column-end}
+use Rattle.byteorder.specs.inner.Columns.{turnedColumn, Spread}
 use borrow.Author.Needs.{needs}
 use Rattle.byteorder.proofs.columns.turn_column.Statement.{statement}
 use Rattle.byteorder.proofs.columns.turn_column.Tie as tie
 
-abbrev Inv-loop : tie.InvT-loop
-Inv-loop s out₀ at w step n p₀ i₀ out p i = ColumnLoop w s out₀ step n at out p i
-
-abbrev μ-loop : tie.MeasureT-loop
-μ-loop s out₀ at w step n p₀ i₀ out p i = n - i
-
-loop-holds : tie.Need-loop-holds Inv-loop μ-loop
-loop-holds c = let a = c .before .before .args in column-begin (a .w) (now (a .s)) (now (a .out)) (a .step) (a .n) (a .at) (c .before .before .pre .1)
-
-turn-number-requires : tie.Need-turn-number-requires Inv-loop μ-loop
-turn-number-requires c κs =
-    let a = c .before .before .before .before .before .args in
-    let l = c .before .before .loop in
-    (c .before .before .before .before .before .pre .0, column-here (a .w) (now (a .s)) (now (a .out)) (a .step) (a .n) (a .at) (l .out) (l .p) (l .i) (l .inv) (c .before .loop-test .taken))
-
-add-p : tie.Need-add-p Inv-loop μ-loop
-add-p c =
-    let a = c .before .before .before .before .before .before .before .before .args in
-    let l = c .before .before .before .before .before .loop in
-    omega (arith, column-here (a .w) (now (a .s)) (now (a .out)) (a .step) (a .n) (a .at) (l .out) (l .p) (l .i) (l .inv) (c .before .before .before .before .loop-test .taken) .inside, l .inv .left .near)
-
-add-i : tie.Need-add-i Inv-loop μ-loop
-add-i c = search needs
-
-loop-less : tie.Need-loop-less Inv-loop μ-loop
-loop-less c = search needs
-
-loop-again : tie.Need-loop-again Inv-loop μ-loop
-loop-again c =
-    let a = c .before .before .before .before .before .before .before .before .args in
-    let l = c .before .before .before .before .before .loop in
-    column-next (a .w) (now (a .s)) (now (a .out)) (a .step) (a .n) (a .at) (l .out) (l .p) (l .i) (l .inv) (c .before .before .before .before .loop-test .taken) _ (c .before .before .turn-number .ensures)
-
-same-length : tie.Need-same-length Inv-loop μ-loop
-same-length c = c .before .loop .inv .long
-
-returns : tie.Need-returns Inv-loop μ-loop
-returns c =
+turn-column-8-requires : tie.Need-turn-column-8-requires
+turn-column-8-requires c κs =
     let a = c .before .before .before .before .args in
-    let l = c .before .loop in
-    column-end (a .w) (now (a .s)) (now (a .out)) (a .step) (a .n) (a .at) (l .out) (l .p) (l .i) (l .inv) (c .loop-test .left)
+    let e : a .w ≡ 8 = c .before .if1 .taken in
+    subst (λ (k : ℕ). Spread (now (a .s)) (now (a .out)) (a .at + k) (a .step) (a .n)) e (c .before .before .before .before .pre .1)
+
+same-length : tie.Need-same-length
+same-length c = search needs
+
+returns : tie.Need-returns
+returns c =
+    let a = c .before .before .before .before .before .before .before .args in
+    let e : a .w ≡ 8 = c .before .before .before .before .if1 .taken in
+    c .before .before .turn-column-8 .ensures ∙ sym (ap (λ (k : ℕ). turnedColumn k (now (a .s)) (a .step) (a .n) (a .at) (now (a .out))) e)
+
+turn-column-4-requires : tie.Need-turn-column-4-requires
+turn-column-4-requires c κs =
+    let a = c .before .before .before .before .before .args in
+    let e : a .w ≡ 4 = c .before .if2 .taken in
+    subst (λ (k : ℕ). Spread (now (a .s)) (now (a .out)) (a .at + k) (a .step) (a .n)) e (c .before .before .before .before .before .pre .1)
+
+same-length-2 : tie.Need-same-length-2
+same-length-2 c = search needs
+
+returns-2 : tie.Need-returns-2
+returns-2 c =
+    let a = c .before .before .before .before .before .before .before .before .args in
+    let e : a .w ≡ 4 = c .before .before .before .before .if2 .taken in
+    c .before .before .turn-column-4 .ensures ∙ sym (ap (λ (k : ℕ). turnedColumn k (now (a .s)) (a .step) (a .n) (a .at) (now (a .out))) e)
+
+turn-column-2-requires : tie.Need-turn-column-2-requires
+turn-column-2-requires c κs =
+    let a = c .before .before .before .before .before .before .args in
+    let e : a .w ≡ 2 = c .before .if3 .taken in
+    subst (λ (k : ℕ). Spread (now (a .s)) (now (a .out)) (a .at + k) (a .step) (a .n)) e (c .before .before .before .before .before .before .pre .1)
+
+same-length-3 : tie.Need-same-length-3
+same-length-3 c = search needs
+
+returns-3 : tie.Need-returns-3
+returns-3 c =
+    let a = c .before .before .before .before .before .before .before .before .before .args in
+    let e : a .w ≡ 2 = c .before .before .before .before .if3 .taken in
+    c .before .before .turn-column-2 .ensures ∙ sym (ap (λ (k : ℕ). turnedColumn k (now (a .s)) (a .step) (a .n) (a .at) (now (a .out))) e)
+
+turn-column-16-requires : tie.Need-turn-column-16-requires
+turn-column-16-requires c κs =
+    let a = c .before .before .before .before .before .before .before .args in
+    let e : a .w ≡ 16 = c .before .if4 .taken in
+    subst (λ (k : ℕ). Spread (now (a .s)) (now (a .out)) (a .at + k) (a .step) (a .n)) e (c .before .before .before .before .before .before .before .pre .1)
+
+same-length-4 : tie.Need-same-length-4
+same-length-4 c = search needs
+
+returns-4 : tie.Need-returns-4
+returns-4 c =
+    let a = c .before .before .before .before .before .before .before .before .before .before .args in
+    let e : a .w ≡ 16 = c .before .before .before .before .if4 .taken in
+    c .before .before .turn-column-16 .ensures ∙ sym (ap (λ (k : ℕ). turnedColumn k (now (a .s)) (a .step) (a .n) (a .at) (now (a .out))) e)
+
+turn-column-1-requires : tie.Need-turn-column-1-requires
+turn-column-1-requires c κs =
+    let a = c .before .before .before .before .before .before .before .args in
+    let e : a .w ≡ 1 = c .before .before .before .before .before .before .before .pre .0 .else (c .before .before .before .before .if1 .left) (c .before .before .before .if2 .left) (c .before .before .if3 .left) (c .before .if4 .left) in
+    subst (λ (k : ℕ). Spread (now (a .s)) (now (a .out)) (a .at + k) (a .step) (a .n)) e (c .before .before .before .before .before .before .before .pre .1)
+
+same-length-5 : tie.Need-same-length-5
+same-length-5 c = search needs
+
+returns-5 : tie.Need-returns-5
+returns-5 c =
+    let a = c .before .before .before .before .before .before .before .before .before .before .args in
+    let e : a .w ≡ 1 = c .before .before .before .before .before .before .before .before .before .before .pre .0 .else (c .before .before .before .before .before .before .before .if1 .left) (c .before .before .before .before .before .before .if2 .left) (c .before .before .before .before .before .if3 .left) (c .before .before .before .before .if4 .left) in
+    c .before .before .turn-column-1 .ensures ∙ sym (ap (λ (k : ℕ). turnedColumn k (now (a .s)) (a .step) (a .n) (a .at) (now (a .out))) e)
 
 pub turn-column-spec : {M : Type 1} → statement M
 turn-column-spec =
     tie.close
     (tie.spec
-    Inv-loop
-    μ-loop
-    loop-holds
-    turn-number-requires
-    add-p
-    add-i
-    loop-less
-    loop-again
+    turn-column-8-requires
     same-length
-    returns)
+    returns
+    turn-column-4-requires
+    same-length-2
+    returns-2
+    turn-column-2-requires
+    same-length-3
+    returns-3
+    turn-column-16-requires
+    same-length-4
+    returns-4
+    turn-column-1-requires
+    same-length-5
+    returns-5)

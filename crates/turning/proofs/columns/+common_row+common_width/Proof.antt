@@ -69,19 +69,19 @@ common-row-loop-holds : (t : ℕ) → common-row-lts.Need-loop-holds (common-row
 common-row-loop-holds t c = let a = c .before .args in common-begin (now (a .d)) (a .start) (a .k) (a .before) (a .left) (c .before .pre .1)
 
 common-row-common-width-requires : (t : ℕ) → common-row-lts.Need-common-width-requires (common-row-calls t) (common-row-at t) common-row.Post common-row-Inv-loop common-row-μ-loop
-common-row-common-width-requires t c κs = 
+common-row-common-width-requires t c κs =
     let a = c .before .before .before .args in
     let l = c .before .loop in
     (omega (arith, c .before .before .before .pre .0), next-type (now (a .d)) (a .k) (l .p) (a .left) (l .i) (l .inv .row) (c .loop-test .taken) .first)
 
 common-row-size-at-requires : (t : ℕ) → common-row-lts.Need-size-at-requires (common-row-calls t) (common-row-at t) common-row.Post common-row-Inv-loop common-row-μ-loop
-common-row-size-at-requires t c κs = 
+common-row-size-at-requires t c κs =
     let a = c .before .before .before .before .args in
     let l = c .before .before .loop in
     header-room (now (a .d)) (l .p) (next-type (now (a .d)) (a .k) (l .p) (a .left) (l .i) (l .inv .row) (c .before .loop-test .taken) .first .here)
 
 common-row-add-p : (t : ℕ) → common-row-lts.Need-add-p (common-row-calls t) (common-row-at t) common-row.Post common-row-Inv-loop common-row-μ-loop
-common-row-add-p t c = 
+common-row-add-p t c =
     let a = c .before .before .before .before .before .args in
     let l = c .before .before .before .loop in
     let turn = next-type (now (a .d)) (a .k) (l .p) (a .left) (l .i) (l .inv .row) (c .before .before .loop-test .taken) in
@@ -94,14 +94,14 @@ common-row-loop-less : (t : ℕ) → common-row-lts.Need-loop-less (common-row-c
 common-row-loop-less t c = omega (arith, c .before .before .loop-test .taken)
 
 common-row-loop-again : (t : ℕ) → common-row-lts.Need-loop-again (common-row-calls t) (common-row-at t) common-row.Post common-row-Inv-loop common-row-μ-loop
-common-row-loop-again t c = 
+common-row-loop-again t c =
     let a = c .before .before .before .before .before .args in
     let l = c .before .before .before .loop in
     rw (c .size-at .ensures .eq)
     (common-next (now (a .d)) (a .start) (a .k) (a .before) (a .left) (l .p) (l .w) (l .i) (l .inv) (c .before .before .loop-test .taken) _ (c .before .common-width .ensures))
 
 common-row-returns : (t : ℕ) → common-row-lts.Need-returns (common-row-calls t) (common-row-at t) common-row.Post common-row-Inv-loop common-row-μ-loop
-common-row-returns t c = 
+common-row-returns t c =
     let a = c .before .before .before .args in
     let l = c .before .loop in
     common-end (now (a .d)) (a .start) (a .k) (a .before) (a .left) (l .p) (l .w) (l .i) (l .inv) (c .loop-test .left)
@@ -119,7 +119,7 @@ common-width-joined-width-requires : (t : ℕ) → common-width-lts.Need-joined-
 common-width-joined-width-requires t c κs = search needs
 
 common-width-returns : (t : ℕ) → common-width-lts.Need-returns (common-width-calls t) (common-width-at t) common-width.Post
-common-width-returns t c = 
+common-width-returns t c =
     let a = c .before .before .before .before .before .before .args in
     let numbers = numbers-scalar (now (a .d)) (a .p) (c .before .before .before .before .before .before .pre .1 .here) _ (c .before .before .before .before .code-at .ensures) (omega (arith, c .before .before .if1 .taken, c .before .before .before .width .ensures)) in
     c .joined-width .ensures ∙ ap (joinedWidth (a .before)) (c .before .number-width .ensures) ∙ common-scalar (a .before) _ ∙ ap (commonWidth (a .before)) (sym numbers)
@@ -134,13 +134,13 @@ common-width-inside-of-requires : (t : ℕ) → common-width-lts.Need-inside-of-
 common-width-inside-of-requires t c κs = c .before .before .before .before .before .before .before .pre .1 .here
 
 common-width-sub-common-row : (t : ℕ) → common-width-lts.Need-sub-common-row (common-width-calls t) (common-width-at t) common-width.Post
-common-width-sub-common-row t c = 
+common-width-sub-common-row t c =
     let a = c .before .before .before .before .before .before .before .before .args in
     type-deep (now (a .d)) (a .p) (a .left) (c .before .before .before .before .before .before .before .before .pre .1)
 
 common-width-common-row-requires : (t : ℕ) → common-width-lts.Need-common-row-requires (common-width-calls t) (common-width-at t) common-width.Post
 unfolding kindNamed hasInside
-common-width-common-row-requires t c κs = 
+common-width-common-row-requires t c κs =
     let a = c .before .before .before .before .before .before .before .before .args in
     let type = c .before .before .before .before .before .before .before .before .pre .1 in
     let kind = known _ kinds.Cluster (kindOf (c .before .before .before .before .before .before .code-at .result)) (c .before .before .before .kind-of .ensures) (c .before .enum-told .given .1) ∙ ap kindOf (c .before .before .before .before .before .before .code-at .ensures) in
@@ -148,14 +148,14 @@ common-width-common-row-requires t c κs =
 
 common-width-returns-2 : (t : ℕ) → common-width-lts.Need-returns-2 (common-width-calls t) (common-width-at t) common-width.Post
 unfolding kindNamed
-common-width-returns-2 t c = 
+common-width-returns-2 t c =
     let a = c .before .before .before .before .before .before .before .before .before .args in
     let kind = known _ kinds.Cluster (kindOf (c .before .before .before .before .before .before .before .code-at .result)) (c .before .before .before .before .kind-of .ensures) (c .before .before .enum-told .given .1) ∙ ap kindOf (c .before .before .before .before .before .before .before .code-at .ensures) in
     c .common-row .ensures ∙ ap (commonWidth (a .before)) (sym (numbers-members (now (a .d)) (a .p) (c .before .before .before .before .before .before .before .before .before .pre .1 .here) _ (c .before .inside-of .ensures) kind))
 
 common-width-returns-3 : (t : ℕ) → common-width-lts.Need-returns-3 (common-width-calls t) (common-width-at t) common-width.Post
 unfolding kindIs commonWidth
-common-width-returns-3 t c = 
+common-width-returns-3 t c =
     let a = c .before .before .before .before .before .before .args in
     let wide = c .before .before .before .width .ensures ∙ ap widthOf (c .before .before .before .before .code-at .ensures) in
     let no-cluster = not-kind cluster (0 ∷ 1 ∷ 2 ∷ 3 ∷ 4 ∷ 6 ∷ []) tt _ _ _ (c .before .kind-of .ensures) (c .before .before .before .before .code-at .ensures) (c .match .keys2) in

@@ -64,13 +64,13 @@ turn-columns-width-requires : (t : ℕ) → turn-columns-lts.Need-width-requires
 turn-columns-width-requires t c κs = search needs
 
 turn-columns-turn-scalar-column-requires : (t : ℕ) → turn-columns-lts.Need-turn-scalar-column-requires (turn-columns-calls t) (turn-columns-at t) turn-columns.Post
-turn-columns-turn-scalar-column-requires t c κs = 
+turn-columns-turn-scalar-column-requires t c κs =
     let a = c .before .before .before .before .before .before .before .args in
     let numbers = numbers-scalar (now (a .d)) (a .p) (c .before .before .before .before .before .before .before .pre .1 .0 .here) _ (c .before .before .before .code-at .ensures) (omega (arith, c .before .if1 .taken, c .before .before .width .ensures)) in
     ((c .before .before .width .ensures, omega (arith, c .before .if1 .taken)), scalar-spread _ _ _ (c .before .before .width .ensures) numbers (now (a .s)) (now (a .out)) (a .at) (a .step) (a .n) (c .before .before .before .before .before .before .before .pre .1 .1))
 
 turn-columns-add-result : (t : ℕ) → turn-columns-lts.Need-add-result (turn-columns-calls t) (turn-columns-at t) turn-columns.Post
-turn-columns-add-result t c = 
+turn-columns-add-result t c =
     let a = c .before .before .before .before .before .before .before .before .before .before .args in
     let numbers = numbers-scalar (now (a .d)) (a .p) (c .before .before .before .before .before .before .before .before .before .before .pre .1 .0 .here) _ (c .before .before .before .before .before .before .code-at .ensures) (omega (arith, c .before .before .before .before .if1 .taken, c .before .before .before .before .before .width .ensures)) in
     let spread = scalar-spread _ _ _ (c .before .before .before .before .before .width .ensures) numbers (now (a .s)) (now (a .out)) (a .at) (a .step) (a .n) (c .before .before .before .before .before .before .before .before .before .before .pre .1 .1) in
@@ -80,7 +80,7 @@ turn-columns-same-length : (t : ℕ) → turn-columns-lts.Need-same-length (turn
 turn-columns-same-length t c = search needs
 
 turn-columns-returns : (t : ℕ) → turn-columns-lts.Need-returns (turn-columns-calls t) (turn-columns-at t) turn-columns.Post
-turn-columns-returns t c = 
+turn-columns-returns t c =
     let a = c .before .before .before .before .before .before .before .before .before .before .args in
     let numbers = numbers-scalar (now (a .d)) (a .p) (c .before .before .before .before .before .before .before .before .before .before .pre .1 .0 .here) _ (c .before .before .before .before .before .before .code-at .ensures) (omega (arith, c .before .before .before .before .if1 .taken, c .before .before .before .before .before .width .ensures)) in
     scalar-columns _ _ _ (c .before .before .before .before .before .width .ensures) numbers (now (a .s)) (now (a .out)) _ (a .at) (a .step) (a .n) (c .before .before .turn-scalar-column .ensures)
@@ -95,13 +95,13 @@ turn-columns-inside-of-requires : (t : ℕ) → turn-columns-lts.Need-inside-of-
 turn-columns-inside-of-requires t c κs = c .before .before .before .before .before .before .before .before .before .pre .1 .0 .here
 
 turn-columns-sub-turn-columns-row : (t : ℕ) → turn-columns-lts.Need-sub-turn-columns-row (turn-columns-calls t) (turn-columns-at t) turn-columns.Post
-turn-columns-sub-turn-columns-row t c = 
+turn-columns-sub-turn-columns-row t c =
     let a = c .before .before .before .before .before .before .before .before .before .before .before .args in
     type-deep (now (a .d)) (a .p) (a .left) (c .before .before .before .before .before .before .before .before .before .before .before .pre .1 .0)
 
 turn-columns-turn-columns-row-requires : (t : ℕ) → turn-columns-lts.Need-turn-columns-row-requires (turn-columns-calls t) (turn-columns-at t) turn-columns.Post
 unfolding kindNamed hasInside
-turn-columns-turn-columns-row-requires t c κs = 
+turn-columns-turn-columns-row-requires t c κs =
     let a = c .before .before .before .before .before .before .before .before .before .before .before .args in
     let type = c .before .before .before .before .before .before .before .before .before .before .before .pre .1 .0 in
     let kind = known _ kinds.Cluster (kindOf (c .before .before .before .before .before .before .before .code-at .result)) (c .before .before .before .before .kind-of .ensures) (c .before .before .enum-told .given .1) ∙ ap kindOf (c .before .before .before .before .before .before .before .code-at .ensures) in
@@ -113,7 +113,7 @@ turn-columns-same-length-2 t c = search needs
 
 turn-columns-returns-2 : (t : ℕ) → turn-columns-lts.Need-returns-2 (turn-columns-calls t) (turn-columns-at t) turn-columns.Post
 unfolding kindNamed
-turn-columns-returns-2 t c = 
+turn-columns-returns-2 t c =
     let a = c .before .before .before .before .before .before .before .before .before .before .before .before .before .before .args in
     let kind = known _ kinds.Cluster (kindOf (c .before .before .before .before .before .before .before .before .before .before .code-at .result)) (c .before .before .before .before .before .before .before .kind-of .ensures) (c .before .before .before .before .before .enum-told .given .1) ∙ ap kindOf (c .before .before .before .before .before .before .before .before .before .before .code-at .ensures) in
     let numbers = numbers-members (now (a .d)) (a .p) (c .before .before .before .before .before .before .before .before .before .before .before .before .before .before .pre .1 .0 .here) _ (c .before .before .before .before .inside-of .ensures) kind in
@@ -121,7 +121,7 @@ turn-columns-returns-2 t c =
 
 turn-columns-returns-3 : (t : ℕ) → turn-columns-lts.Need-returns-3 (turn-columns-calls t) (turn-columns-at t) turn-columns.Post
 unfolding kindIs
-turn-columns-returns-3 t c = 
+turn-columns-returns-3 t c =
     let a = c .before .before .before .before .before .before .before .before .args in
     let wide = c .before .before .before .width .ensures ∙ ap widthOf (c .before .before .before .before .code-at .ensures) in
     let no-cluster = not-kind cluster (0 ∷ 1 ∷ 2 ∷ 3 ∷ 4 ∷ 6 ∷ []) tt _ _ _ (c .before .kind-of .ensures) (c .before .before .before .before .code-at .ensures) (c .match .keys2) in
@@ -135,24 +135,24 @@ abbrev turn-columns-row-μ-loop : turn-columns-row-lts.MeasureT-loop
 turn-columns-row-μ-loop d start k s out₀ from step n left p₀ at₀ i₀ out p at i = k - i
 
 turn-columns-row-loop-holds : (t : ℕ) → turn-columns-row-lts.Need-loop-holds (turn-columns-row-calls t) (turn-columns-row-at t) turn-columns-row.Post turn-columns-row-Inv-loop turn-columns-row-μ-loop
-turn-columns-row-loop-holds t c = 
+turn-columns-row-loop-holds t c =
     let a = c .before .before .before .args in
     columns-begin (now (a .d)) (a .start) (a .k) (a .left) (now (a .s)) (now (a .out)) (a .from) (a .step) (a .n) (c .before .before .before .pre .1 .0) (c .before .before .before .pre .1 .1)
 
 turn-columns-row-turn-columns-requires : (t : ℕ) → turn-columns-row-lts.Need-turn-columns-requires (turn-columns-row-calls t) (turn-columns-row-at t) turn-columns-row.Post turn-columns-row-Inv-loop turn-columns-row-μ-loop
-turn-columns-row-turn-columns-requires t c κs = 
+turn-columns-row-turn-columns-requires t c κs =
     let a = c .before .before .before .before .before .before .args in
     let l = c .before .before .loop in
     (omega (arith, c .before .before .before .before .before .before .pre .0), (next-type (now (a .d)) (a .k) (l .p) (a .left) (l .i) (l .inv .row) (c .before .loop-test .taken) .first, columns-here (now (a .d)) (a .start) (a .k) (a .left) (now (a .s)) (now (a .out)) (a .from) (a .step) (a .n) (l .out) (l .p) (l .at) (l .i) (l .inv) (c .before .loop-test .taken)))
 
 turn-columns-row-size-at-requires : (t : ℕ) → turn-columns-row-lts.Need-size-at-requires (turn-columns-row-calls t) (turn-columns-row-at t) turn-columns-row.Post turn-columns-row-Inv-loop turn-columns-row-μ-loop
-turn-columns-row-size-at-requires t c κs = 
+turn-columns-row-size-at-requires t c κs =
     let a = c .before .before .before .before .before .before .before .before .before .args in
     let l = c .before .before .before .before .before .loop in
     header-room (now (a .d)) (l .p) (next-type (now (a .d)) (a .k) (l .p) (a .left) (l .i) (l .inv .row) (c .before .before .before .before .loop-test .taken) .first .here)
 
 turn-columns-row-add-p : (t : ℕ) → turn-columns-row-lts.Need-add-p (turn-columns-row-calls t) (turn-columns-row-at t) turn-columns-row.Post turn-columns-row-Inv-loop turn-columns-row-μ-loop
-turn-columns-row-add-p t c = 
+turn-columns-row-add-p t c =
     let a = c .before .before .before .before .before .before .before .before .before .before .args in
     let l = c .before .before .before .before .before .before .loop in
     let turn = next-type (now (a .d)) (a .k) (l .p) (a .left) (l .i) (l .inv .row) (c .before .before .before .before .before .loop-test .taken) in
@@ -165,7 +165,7 @@ turn-columns-row-loop-less : (t : ℕ) → turn-columns-row-lts.Need-loop-less (
 turn-columns-row-loop-less t c = omega (arith, c .before .before .before .before .before .loop-test .taken)
 
 turn-columns-row-loop-again : (t : ℕ) → turn-columns-row-lts.Need-loop-again (turn-columns-row-calls t) (turn-columns-row-at t) turn-columns-row.Post turn-columns-row-Inv-loop turn-columns-row-μ-loop
-turn-columns-row-loop-again t c = 
+turn-columns-row-loop-again t c =
     let a = c .before .before .before .before .before .before .before .before .before .before .args in
     let l = c .before .before .before .before .before .before .loop in
     rw (c .size-at .ensures .eq)
@@ -175,7 +175,7 @@ turn-columns-row-same-length : (t : ℕ) → turn-columns-row-lts.Need-same-leng
 turn-columns-row-same-length t c = c .before .loop .inv .long
 
 turn-columns-row-returns : (t : ℕ) → turn-columns-row-lts.Need-returns (turn-columns-row-calls t) (turn-columns-row-at t) turn-columns-row.Post turn-columns-row-Inv-loop turn-columns-row-μ-loop
-turn-columns-row-returns t c = 
+turn-columns-row-returns t c =
     let a = c .before .before .before .before .before .args in
     let l = c .before .loop in
     columns-end (now (a .d)) (a .start) (a .k) (a .left) (now (a .s)) (now (a .out)) (a .from) (a .step) (a .n) (l .out) (l .p) (l .at) (l .i) (l .inv) (c .loop-test .left)

@@ -26,11 +26,13 @@ mul-turn-run c =
 turn-run-requires : tie.Need-turn-run-requires
 unfolding mixed
 turn-run-requires c κs =
-    let a = c .before .before .before .before .before .before .args in
-    (one-wide (now (a .d)) (a .p) (a .left) (c .before .before .before .before .before .before .pre .0) (a .step) (c .before .before .before .before .before .before .pre .1 .0) _ (c .before .before .common-width .ensures) (c .before .if1 .taken), record {
-      inside = omega (arith, one-size (now (a .d)) (a .p) (a .left) (c .before .before .before .before .before .before .pre .0) (a .step) (c .before .before .before .before .before .before .pre .1 .0) _ (c .before .before .common-width .ensures) (c .before .if1 .taken) (a .n), c .before .before .before .before .before .before .pre .1 .1 .inside);
-      room = c .before .before .before .before .before .before .pre .1 .1 .room;
-    })
+    let a = c .before .before .before .before .before .before .args in (
+      one-wide (now (a .d)) (a .p) (a .left) (c .before .before .before .before .before .before .pre .0) (a .step) (c .before .before .before .before .before .before .pre .1 .0) _ (c .before .before .common-width .ensures) (c .before .if1 .taken),
+      record {
+        inside = omega (arith, one-size (now (a .d)) (a .p) (a .left) (c .before .before .before .before .before .before .pre .0) (a .step) (c .before .before .before .before .before .before .pre .1 .0) _ (c .before .before .common-width .ensures) (c .before .if1 .taken) (a .n), c .before .before .before .before .before .before .pre .1 .1 .inside);
+        room = c .before .before .before .before .before .before .pre .1 .1 .room;
+      },
+    )
 
 same-length : tie.Need-same-length
 same-length c = search needs
