@@ -63,7 +63,7 @@ turn-columns-requires-2 : tie.Need-turn-columns-requires-2 Inv-loop μ-loop
 turn-columns-requires-2 c κs =
     let a = c .before .before .before .before .before .before .args in
     let l = c .before .before .loop in
-    (c .before .before .before .before .before .before .pre .0, blocks-here (numbersIn (typeAt (now (a .d)) (a .p))) (a .step) (now (a .s)) (now (a .out)) (a .n) (a .from) (even-total (typeAt (now (a .d)) (a .p)) (a .step) (c .before .before .before .before .before .before .pre .1 .0)) (l .out) (l .at) (l .rest) (l .inv) (l .rest) (omega arith))
+    (c .before .before .before .before .before .before .pre .0, blocks-here (numbersIn (typeAt (now (a .d)) (a .p))) (a .step) (now (a .s)) (now (a .out)) (a .n) (a .from) (even-total (typeAt (now (a .d)) (a .p)) (a .step) (c .before .before .before .before .before .before .pre .1 .0)) (l .out) (l .at) (l .rest) (l .inv) _ (omega arith))
 
 same-length : tie.Need-same-length Inv-loop μ-loop
 same-length c = c .before .before .turn-columns2 .kept .1 .1 .1 .0 ∙ c .before .before .before .before .before .loop .inv .long
