@@ -1,4 +1,5 @@
 pub mod Reversing
 pub mod RunTurns
+pub mod ColumnTurns
 pub mod Widths
 pub mod Chained

@@ -2,7 +2,7 @@
 use mathlib.Core.Path.{_≡_, refl, sym, ap, ap₂, subst, _∙_}
 use mathlib.Core.List.{List, reverse}
 use Prim.Native.Nat.{ℕ, suc, _+_, _-_, _*_, _<_, _≤_}
-use native.Mathlib.Nat.{sub-zero, suc-mul}
+use native.Mathlib.Nat.{sub-zero, suc-mul, add-mul}
 use native.Mathlib.Omega.{arith}
 use lib.ListN.{length, take, drop}
 use lib.Seq.{length-sets}
@@ -39,11 +39,21 @@ module _ (w : ℕ) (s before : List ℕ) (n from : ℕ) where
     unfolding turnedRun
     run-end done = let none : n - i ≡ 0 = omega arith in sym (ap (λ (k : ℕ). turnedRun w s k (from + i * w) out) none) ∙ loop .same
 
-  -- two in a turn
-  pub run-two : (out : List ℕ) (i : ℕ) → RunLoop out i → i + 1 < n → (between after : List ℕ) → between ≡ turnedAt w s (from + i * w) out
-      → after ≡ turnedAt w s (from + i * w + w) between → RunLoop after (i + 2)
-  run-two out i loop more between after e h =
-      let one = run-next out i loop (omega arith) between e in
-      let place : from + i * w + w ≡ from + (i + 1) * w = omega (arith, suc-mul i w) in
-      let two : i + 1 + 1 ≡ i + 2 = omega arith in
-      subst (λ (k : ℕ). RunLoop after k) two (run-next between (i + 1) one more after (h ∙ ap (λ (p : ℕ). turnedAt w s p between) place))
+  -- the others
+  pub run-rest : (out : List ℕ) (i : ℕ) → RunLoop out i → (after : List ℕ) → after ≡ turnedRun w s (n - i) (from + i * w) out → after ≡ turnedRun w s n from before
+  run-rest out i loop after e = e ∙ loop .same
+
+  -- one more in the same turn, k of them after the first
+  run-more : (out : List ℕ) (i k : ℕ) → RunLoop out (i + k) → i + k < n → (after : List ℕ) → after ≡ turnedAt w s (from + i * w + k * w) out
+      → RunLoop after (i + (k + 1))
+  run-more out i k loop more after e =
+      let place : from + i * w + k * w ≡ from + (i + k) * w = omega (arith, add-mul i k w) in
+      let next : i + k + 1 ≡ i + (k + 1) = omega arith in
+      subst (λ (j : ℕ). RunLoop after j) next (run-next out (i + k) loop more after (e ∙ ap (λ (p : ℕ). turnedAt w s p out) place))
+
+  -- four in a turn
+  pub run-four : (out : List ℕ) (i : ℕ) → RunLoop out i → i + 3 < n → (one two three after : List ℕ) → one ≡ turnedAt w s (from + i * w) out
+      → two ≡ turnedAt w s (from + i * w + 1 * w) one → three ≡ turnedAt w s (from + i * w + 2 * w) two → after ≡ turnedAt w s (from + i * w + 3 * w) three
+      → RunLoop after (i + 4)
+  run-four out i loop more one two three after e f g h =
+      run-more three i 3 (run-more two i 2 (run-more one i 1 (run-next out i loop (omega arith) one e) (omega arith) two f) (omega arith) three g) more after h

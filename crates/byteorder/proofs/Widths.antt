@@ -51,7 +51,7 @@ numbers-all c = go (decLt c 34)
     go (no h) = past (isComplex c) (none-past c (omega arith))
 
 -- each is of one of the widths that are turned
-number-wide : (c : ℕ) → 0 < widthOf c → NumberWide (numberWidth c)
+pub number-wide : (c : ℕ) → 0 < widthOf c → NumberWide (numberWidth c)
 number-wide c some = go (decLt c 34)
   where
     go : Dec (c < 34) → NumberWide (numberWidth c)

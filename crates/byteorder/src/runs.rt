@@ -43,21 +43,33 @@ pub fn turn_run_4(s: &[u8], out: &mut [u8], at: usize, n: usize)
     }
 }
 
-// n numbers of eight bytes, two in a turn: with one, the loop's own steps take as long as the number's.
+// n numbers of eight bytes, one in a turn.
+fn turn_rest_8(s: &[u8], out: &mut [u8], at: usize, n: usize)
+    requires { ⌜ Room (now s) (now out) (at + n * 8) ⌝ }
+    ensures { λ _. ⌜ now (out .exit) ≡ turnedRun 8 (now (s .entry)) n at (now (out .entry)) ⌝ }
+{
+    let mut i = 0;
+    while i < n {
+        turn_number_8(s, out, at + i * 8);
+        i += 1;
+    }
+}
+
+// n numbers of eight bytes, four in a turn: with one, the loop's own steps take as long as the number's.
 fn turn_run_8(s: &[u8], out: &mut [u8], at: usize, n: usize)
     requires { ⌜ Room (now s) (now out) (at + n * 8) ⌝ }
     ensures { λ _. ⌜ now (out .exit) ≡ turnedRun 8 (now (s .entry)) n at (now (out .entry)) ⌝ }
 {
     let mut i = 0;
-    while i + 1 < n {
+    while i + 3 < n {
         let p = at + i * 8;
         turn_number_8(s, out, p);
         turn_number_8(s, out, p + 8);
-        i += 2;
+        turn_number_8(s, out, p + 16);
+        turn_number_8(s, out, p + 24);
+        i += 4;
     }
-    if i < n {
-        turn_number_8(s, out, at + i * 8);
-    }
+    turn_rest_8(s, out, at + i * 8, n - i);
 }
 
 // n numbers of sixteen bytes.

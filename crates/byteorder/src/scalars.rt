@@ -17,7 +17,7 @@ const FIRST_COMPLEX_QUANTITY: u8 = 0x1C;
 const LAST_COMPLEX_QUANTITY: u8 = 0x1E;
 
 // Whether values of the code are two numbers.
-fn is_complex(code: u8) -> bool
+pub fn is_complex(code: u8) -> bool
     ensures { λ r. ⌜ r ≡ isComplex code ⌝ }
 {
     if code < FIRST_COMPLEX {
@@ -30,6 +30,17 @@ fn is_complex(code: u8) -> bool
         return false;
     }
     code <= LAST_COMPLEX_QUANTITY
+}
+
+// The bytes of each number of a scalar of the code `code`, of w bytes.
+pub fn number_width(code: u8, w: usize) -> usize
+    requires { ⌜ w ≡ widthOf code ⌝ }
+    ensures { λ r. ⌜ r ≡ numberWidth code ⌝ }
+{
+    if is_complex(code) {
+        return w / 2;
+    }
+    w
 }
 
 // One scalar of the code `code`, of w bytes.

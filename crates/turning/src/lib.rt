@@ -1,4 +1,5 @@
 // The little-endian form of flattened data, there and back.
+pub mod columns;
 pub mod little;
 pub mod sizes;
 pub mod texts;

@@ -1,5 +1,7 @@
 // The pass over accepted data that writes every number reversed. It runs on the accepted descriptor's own bytes, calls itself on what
 // stands inside a type with less of the depth left, and needs the byte order only for lengths and sizes.
+use super::columns::even_step;
+use super::columns::turn_even;
 use super::sizes::turn_sizes;
 use super::texts::turn_text;
 use super::texts::turn_texts;
@@ -73,6 +75,11 @@ pub fn turn_values(
         return turn_texts(s, out, n, from, o);
     }
     if let Kind::Cluster = k {
+        let step = even_step(d, p, n, left);
+        if step != 0 {
+            turn_even(d, p, n, s, out, from, step, left);
+            return from + n * step;
+        }
         let inside = inside_of(d, p);
         return turn_rows(d, inside.at, inside.children, n, s, out, from, o, left - 1);
     }

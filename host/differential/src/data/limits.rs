@@ -3,6 +3,7 @@
 
 mod arrays;
 mod cuts;
+mod even;
 mod huge;
 mod lengths;
 mod nested;
@@ -41,6 +42,7 @@ pub fn all() -> Vec<Limit> {
     cuts::add(&mut limits);
     paths::add(&mut limits);
     order::add(&mut limits);
+    even::add(&mut limits);
     lengths::add(&mut limits);
     limits.0
 }

@@ -1,5 +1,5 @@
 -- The pass over a value, over values of one type and over rows of types. The measure is the depth left, three times, and more for more
--- values. The invariants: with what is left to turn, the output becomes what is promised. Rests on `Parts` and `Remaining`.
+-- values. The invariants: with what is left to turn, the output becomes what is promised. Rests on `Parts`, `Remaining` and `Even`.
 use mathlib.Core.Path.{sym, ap, _∙_}
 use mathlib.Core.List.{[], _∷_}
 use mathlib.Core.Logic.{⊎-elim}
@@ -23,6 +23,7 @@ use Rattle.walking.proofs.Walks.{value-text, value-cluster, value-array, walk-t
 use Rattle.byteorder.specs.inner.Turning.{Turned}
 use Rattle.turning.proofs.Remaining.{RepeatTurns, repeat-begin, repeat-here, repeat-next, repeat-end, remains-last}
 use Rattle.turning.proofs.Parts.{turnable-as, turned-as, turned-at, scalars-done, scalars-room, scalar-room, scalar-done, array-sizes, array-left, RowTurns, row-begin, row-here, row-ready, row-next, row-end}
+use Rattle.turning.proofs.Even.{even-laid, even-done}
 use borrow.Author.Needs.{needs}
 use borrow.Fn.Kinds.{In}
 use borrow.Fn.PlainCycle.{Measures, is, falls, and}
@@ -37,6 +38,8 @@ use Rattle.turning.proofs.turn.turn_values.Kinds as turn-values-kinds
 use Rattle.turning.proofs.turn.+turn_rows+turn_value+turn_values.Lts-turn_values as turn-values-lts
 use Rattle.byteorder.proofs.scalars.turn_scalar.Reads as turn-scalar-reads
 use Rattle.byteorder.proofs.scalars.turn_scalars.Reads as turn-scalars-reads
+use Rattle.turning.proofs.columns.even_step.Reads as even-step-reads
+use Rattle.turning.proofs.columns.turn_even.Reads as turn-even-reads
 use Rattle.turning.proofs.sizes.turn_sizes.Reads as turn-sizes-reads
 use Rattle.turning.proofs.texts.turn_text.Reads as turn-text-reads
 use Rattle.turning.proofs.texts.turn_texts.Reads as turn-texts-reads
@@ -87,7 +90,7 @@ abbrev turn-value-calls : ℕ → turn-value-lts.Claims
 turn-value-calls t = (code-at-reads.Asked, code-at-reads.Learnt, kind-of-reads.Asked, kind-of-reads.Learnt, turn-text-reads.Asked, turn-text-reads.Learnt, inside-of-reads.Asked, inside-of-reads.Learnt, turn-sizes-reads.Asked, turn-sizes-reads.Learnt, turn-values-below t, turn-values.Post, turn-rows-below t, turn-rows.Post)
 
 abbrev turn-values-calls : ℕ → turn-values-lts.Claims
-turn-values-calls t = (code-at-reads.Asked, code-at-reads.Learnt, width-reads.Asked, width-reads.Learnt, turn-scalars-reads.Asked, turn-scalars-reads.Learnt, kind-of-reads.Asked, kind-of-reads.Learnt, turn-texts-reads.Asked, turn-texts-reads.Learnt, inside-of-reads.Asked, inside-of-reads.Learnt, turn-rows-below t, turn-rows.Post)
+turn-values-calls t = (code-at-reads.Asked, code-at-reads.Learnt, width-reads.Asked, width-reads.Learnt, turn-scalars-reads.Asked, turn-scalars-reads.Learnt, kind-of-reads.Asked, kind-of-reads.Learnt, turn-texts-reads.Asked, turn-texts-reads.Learnt, even-step-reads.Asked, even-step-reads.Learnt, turn-even-reads.Asked, turn-even-reads.Learnt, inside-of-reads.Asked, inside-of-reads.Learnt, turn-rows-below t, turn-rows.Post)
 
 abbrev turn-rows-Inv-loop2 : turn-rows-lts.InvT-loop2
 turn-rows-Inv-loop2 d start k n s out₀ from o left at₀ i p₀ j₀ out at p j = RowTurns d (orderOf o) s out₀ k start at₀ left out p at j
@@ -377,39 +380,67 @@ turn-values-returns-2 t c =
 turn-values-enum-told-2 : (t : ℕ) → turn-values-lts.Need-enum-told-2 (turn-values-calls t) (turn-values-at t) turn-values.Post
 turn-values-enum-told-2 t c = search needs
 
-turn-values-inside-of-requires : (t : ℕ) → turn-values-lts.Need-inside-of-requires (turn-values-calls t) (turn-values-at t) turn-values.Post
-turn-values-inside-of-requires t c κs = c .before .before .before .before .before .before .before .before .before .before .pre .1 .0 .here
+turn-values-even-step-requires : (t : ℕ) → turn-values-lts.Need-even-step-requires (turn-values-calls t) (turn-values-at t) turn-values.Post
+turn-values-even-step-requires t c κs = c .before .before .before .before .before .before .before .before .before .before .pre .1 .0
 
-turn-values-sub-turn-rows : (t : ℕ) → turn-values-lts.Need-sub-turn-rows (turn-values-calls t) (turn-values-at t) turn-values.Post
-turn-values-sub-turn-rows t c = let a = c .before .before .before .before .before .before .before .before .before .before .before .before .args in type-deep (now (a .d)) (a .p) (a .left) (c .before .before .before .before .before .before .before .before .before .before .before .before .pre .1 .0)
+turn-values-turn-even-requires : (t : ℕ) → turn-values-lts.Need-turn-even-requires (turn-values-calls t) (turn-values-at t) turn-values.Post
+turn-values-turn-even-requires t c κs =
+    let a = c .before .before .before .before .before .before .before .before .before .before .before .before .before .args in
+    (c .before .before .before .before .before .before .before .before .before .before .before .before .before .pre .1 .0, ((c .before .before .even-step .ensures .even (omega (arith, c .before .if2 .taken))), even-laid (typeAt (now (a .d)) (a .p)) (c .before .before .even-step .result) (c .before .before .even-step .ensures .even (omega (arith, c .before .if2 .taken))) (orderOf (a .o)) (now (a .s)) (a .n) (a .from) (now (a .out)) (c .before .before .even-step .ensures .some (omega (arith, c .before .if2 .taken))) (c .before .before .before .before .before .before .before .before .before .before .before .before .before .pre .1 .1)))
 
-turn-values-turn-rows-requires : (t : ℕ) → turn-values-lts.Need-turn-rows-requires (turn-values-calls t) (turn-values-at t) turn-values.Post
-unfolding kindNamed hasInside
-turn-values-turn-rows-requires t c κs =
-    let a = c .before .before .before .before .before .before .before .before .before .before .before .before .args in
-    let kind = known _ kinds.Cluster (kindOf (c .before .before .before .before .before .before .before .before .code-at .result)) (c .before .before .before .before .before .kind-of .ensures) (c .before .before .enum-told2 .given .1) ∙ ap kindOf (c .before .before .before .before .before .before .before .before .code-at .ensures) in
-    (omega (arith, type-deep (now (a .d)) (a .p) (a .left) (c .before .before .before .before .before .before .before .before .before .before .before .before .pre .1 .0), c .before .before .before .before .before .before .before .before .before .before .before .before .pre .0), (row-inside (now (a .d)) (a .p) (a .left) (c .before .before .before .before .before .before .before .before .before .before .before .before .pre .1 .0) _ (c .before .inside-of .ensures) (sym (ap hasInside kind)), turnable-as _ _ (now (a .s)) (now (a .out)) (a .from) (sym (walk-clusters (now (a .d)) (a .p) (a .left) (c .before .before .before .before .before .before .before .before .before .before .before .before .pre .1 .0) (orderOf (a .o)) (now (a .s)) (a .n) (a .from) _ (c .before .inside-of .ensures) kind)) (c .before .before .before .before .before .before .before .before .before .before .before .before .pre .1 .1)))
+turn-values-mul-result-2 : (t : ℕ) → turn-values-lts.Need-mul-result-2 (turn-values-calls t) (turn-values-at t) turn-values.Post
+turn-values-mul-result-2 t c =
+    let a = c .before .before .before .before .before .before .before .before .before .before .before .before .before .before .before .before .args in
+    omega (arith, even-laid (typeAt (now (a .d)) (a .p)) (c .before .before .before .before .before .even-step .result) (c .before .before .before .before .before .even-step .ensures .even (omega (arith, c .before .before .before .before .if2 .taken))) (orderOf (a .o)) (now (a .s)) (a .n) (a .from) (now (a .out)) (c .before .before .before .before .before .even-step .ensures .some (omega (arith, c .before .before .before .before .if2 .taken))) (c .before .before .before .before .before .before .before .before .before .before .before .before .before .before .before .before .pre .1 .1) .inside)
+
+turn-values-add-result-2 : (t : ℕ) → turn-values-lts.Need-add-result-2 (turn-values-calls t) (turn-values-at t) turn-values.Post
+turn-values-add-result-2 t c =
+    let a = c .before .before .before .before .before .before .before .before .before .before .before .before .before .before .before .before .args in
+    omega (arith, even-laid (typeAt (now (a .d)) (a .p)) (c .before .before .before .before .before .even-step .result) (c .before .before .before .before .before .even-step .ensures .even (omega (arith, c .before .before .before .before .if2 .taken))) (orderOf (a .o)) (now (a .s)) (a .n) (a .from) (now (a .out)) (c .before .before .before .before .before .even-step .ensures .some (omega (arith, c .before .before .before .before .if2 .taken))) (c .before .before .before .before .before .before .before .before .before .before .before .before .before .before .before .before .pre .1 .1) .inside)
 
 turn-values-same-length-3 : (t : ℕ) → turn-values-lts.Need-same-length-3 (turn-values-calls t) (turn-values-at t) turn-values.Post
 turn-values-same-length-3 t c = search needs
 
 turn-values-returns-3 : (t : ℕ) → turn-values-lts.Need-returns-3 (turn-values-calls t) (turn-values-at t) turn-values.Post
-unfolding kindNamed
 turn-values-returns-3 t c =
-    let a = c .before .before .before .before .before .before .before .before .before .before .before .before .before .before .before .args in
-    let kind = known _ kinds.Cluster (kindOf (c .before .before .before .before .before .before .before .before .before .before .before .code-at .result)) (c .before .before .before .before .before .before .before .before .kind-of .ensures) (c .before .before .before .before .before .enum-told2 .given .1) ∙ ap kindOf (c .before .before .before .before .before .before .before .before .before .before .before .code-at .ensures) in
-    turned-as _ _ (now (a .s)) (now (a .out)) _ _ (walk-clusters (now (a .d)) (a .p) (a .left) (c .before .before .before .before .before .before .before .before .before .before .before .before .before .before .before .pre .1 .0) (orderOf (a .o)) (now (a .s)) (a .n) (a .from) _ (c .before .before .before .before .inside-of .ensures) kind) (c .before .before .turn-rows .ensures)
+    let a = c .before .before .before .before .before .before .before .before .before .before .before .before .before .before .before .before .args in
+    even-done (typeAt (now (a .d)) (a .p)) (c .before .before .before .before .before .even-step .result) (c .before .before .before .before .before .even-step .ensures .even (omega (arith, c .before .before .before .before .if2 .taken))) (orderOf (a .o)) (now (a .s)) (a .n) (a .from) (now (a .out)) _ (c .before .before .before .before .before .before .before .before .before .before .before .before .before .before .before .before .pre .1 .1) (c .before .before .turn-even .ensures)
+
+turn-values-inside-of-requires : (t : ℕ) → turn-values-lts.Need-inside-of-requires (turn-values-calls t) (turn-values-at t) turn-values.Post
+turn-values-inside-of-requires t c κs = c .before .before .before .before .before .before .before .before .before .before .before .before .pre .1 .0 .here
+
+turn-values-sub-turn-rows : (t : ℕ) → turn-values-lts.Need-sub-turn-rows (turn-values-calls t) (turn-values-at t) turn-values.Post
+turn-values-sub-turn-rows t c =
+    let a = c .before .before .before .before .before .before .before .before .before .before .before .before .before .before .args in
+    type-deep (now (a .d)) (a .p) (a .left) (c .before .before .before .before .before .before .before .before .before .before .before .before .before .before .pre .1 .0)
+
+turn-values-turn-rows-requires : (t : ℕ) → turn-values-lts.Need-turn-rows-requires (turn-values-calls t) (turn-values-at t) turn-values.Post
+unfolding kindNamed hasInside
+turn-values-turn-rows-requires t c κs =
+    let a = c .before .before .before .before .before .before .before .before .before .before .before .before .before .before .args in
+    let kind = known _ kinds.Cluster (kindOf (c .before .before .before .before .before .before .before .before .before .before .code-at .result)) (c .before .before .before .before .before .before .before .kind-of .ensures) (c .before .before .before .before .enum-told2 .given .1) ∙ ap kindOf (c .before .before .before .before .before .before .before .before .before .before .code-at .ensures) in
+    (omega (arith, type-deep (now (a .d)) (a .p) (a .left) (c .before .before .before .before .before .before .before .before .before .before .before .before .before .before .pre .1 .0), c .before .before .before .before .before .before .before .before .before .before .before .before .before .before .pre .0), (row-inside (now (a .d)) (a .p) (a .left) (c .before .before .before .before .before .before .before .before .before .before .before .before .before .before .pre .1 .0) _ (c .before .inside-of .ensures) (sym (ap hasInside kind)), turnable-as _ _ (now (a .s)) (now (a .out)) (a .from) (sym (walk-clusters (now (a .d)) (a .p) (a .left) (c .before .before .before .before .before .before .before .before .before .before .before .before .before .before .pre .1 .0) (orderOf (a .o)) (now (a .s)) (a .n) (a .from) _ (c .before .inside-of .ensures) kind)) (c .before .before .before .before .before .before .before .before .before .before .before .before .before .before .pre .1 .1)))
+
+turn-values-same-length-4 : (t : ℕ) → turn-values-lts.Need-same-length-4 (turn-values-calls t) (turn-values-at t) turn-values.Post
+turn-values-same-length-4 t c = search needs
+
+turn-values-returns-4 : (t : ℕ) → turn-values-lts.Need-returns-4 (turn-values-calls t) (turn-values-at t) turn-values.Post
+unfolding kindNamed
+turn-values-returns-4 t c =
+    let a = c .before .before .before .before .before .before .before .before .before .before .before .before .before .before .before .before .before .args in
+    let kind = known _ kinds.Cluster (kindOf (c .before .before .before .before .before .before .before .before .before .before .before .before .before .code-at .result)) (c .before .before .before .before .before .before .before .before .before .before .kind-of .ensures) (c .before .before .before .before .before .before .before .enum-told2 .given .1) ∙ ap kindOf (c .before .before .before .before .before .before .before .before .before .before .before .before .before .code-at .ensures) in
+    turned-as _ _ (now (a .s)) (now (a .out)) _ _ (walk-clusters (now (a .d)) (a .p) (a .left) (c .before .before .before .before .before .before .before .before .before .before .before .before .before .before .before .before .before .pre .1 .0) (orderOf (a .o)) (now (a .s)) (a .n) (a .from) _ (c .before .before .before .before .inside-of .ensures) kind) (c .before .before .turn-rows .ensures)
 
 turn-values-turn-rows-requires-2 : (t : ℕ) → turn-values-lts.Need-turn-rows-requires-2 (turn-values-calls t) (turn-values-at t) turn-values.Post
 turn-values-turn-rows-requires-2 t c κs =
     let a = c .before .before .before .before .before .before .before .before .before .before .args in
     (omega (arith, c .before .before .before .before .before .before .before .before .before .before .pre .0), (alone (now (a .d)) (a .p) (a .left) (c .before .before .before .before .before .before .before .before .before .before .pre .1 .0) .0, turnable-as _ _ (now (a .s)) (now (a .out)) (a .from) (sym (walk-alone (now (a .d)) (a .p) (a .left) (c .before .before .before .before .before .before .before .before .before .before .pre .1 .0) (orderOf (a .o)) (now (a .s)) (a .n) (a .from))) (c .before .before .before .before .before .before .before .before .before .before .pre .1 .1)))
 
-turn-values-same-length-4 : (t : ℕ) → turn-values-lts.Need-same-length-4 (turn-values-calls t) (turn-values-at t) turn-values.Post
-turn-values-same-length-4 t c = search needs
+turn-values-same-length-5 : (t : ℕ) → turn-values-lts.Need-same-length-5 (turn-values-calls t) (turn-values-at t) turn-values.Post
+turn-values-same-length-5 t c = search needs
 
-turn-values-returns-4 : (t : ℕ) → turn-values-lts.Need-returns-4 (turn-values-calls t) (turn-values-at t) turn-values.Post
-turn-values-returns-4 t c =
+turn-values-returns-5 : (t : ℕ) → turn-values-lts.Need-returns-5 (turn-values-calls t) (turn-values-at t) turn-values.Post
+turn-values-returns-5 t c =
     let a = c .before .before .before .before .before .before .before .before .before .before .before .before .before .args in
     turned-as _ _ (now (a .s)) (now (a .out)) _ _ (walk-alone (now (a .d)) (a .p) (a .left) (c .before .before .before .before .before .before .before .before .before .before .before .before .before .pre .1 .0) (orderOf (a .o)) (now (a .s)) (a .n) (a .from)) (c .before .before .turn-rows2 .ensures)
 
@@ -477,11 +508,17 @@ pub +turn-rows+turn-value+turn-values-spec : {M : Type 1} → statement M
     (turn-values-same-length-2 t)
     (turn-values-returns-2 t)
     (turn-values-enum-told-2 t)
+    (turn-values-even-step-requires t)
+    (turn-values-turn-even-requires t)
+    (turn-values-mul-result-2 t)
+    (turn-values-add-result-2 t)
+    (turn-values-same-length-3 t)
+    (turn-values-returns-3 t)
     (turn-values-inside-of-requires t)
     (turn-values-sub-turn-rows t)
     (turn-values-turn-rows-requires t)
-    (turn-values-same-length-3 t)
-    (turn-values-returns-3 t)
-    (turn-values-turn-rows-requires-2 t)
     (turn-values-same-length-4 t)
     (turn-values-returns-4 t)
+    (turn-values-turn-rows-requires-2 t)
+    (turn-values-same-length-5 t)
+    (turn-values-returns-5 t)
