@@ -36,13 +36,6 @@ judged-accepted s r e ok = let g = got rowCount (λ _. 0) (checked s) r e ok in 
 pub accepted-small : (s : List ℕ) → Accepted s → length s ≤ descriptorLimit
 accepted-small s a = accepted-standing s (a .at) (a .tree) (a .eq) .1 .1
 
--- bytes of one length that are the same from the first to the last are the same
-pub whole-same : (a b : List ℕ) → length a ≡ length b → sameRun a b 0 (length a) ≡ true → a ≡ b
-unfolding sameRun
-whole-same a b long e =
-    let all = chars-same (slice 0 (length a) b) (slice 0 (length a) a) e in
-    sym (slice-all a (length a) refl) ∙ (sym all ∙ slice-all b (length a) (sym long))
-
 -- the comparison of a and b
 module _ (a b : List ℕ) where
   -- where the first is refused
