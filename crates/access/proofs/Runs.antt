@@ -6,7 +6,7 @@ use mathlib.Core.List.{List}
 use Prim.Native.Nat.{ℕ, suc, _+_, _-_, _*_, _<_, _≤_}
 use native.Mathlib.Omega.{arith}
 use lib.ListN.{length}
-use Rattle.descriptor.specs.Limits.{dataLimit}
+use Rattle.descriptor.specs.Limits.{depthLimit, dataLimit}
 use Rattle.descriptor.specs.Outcome.{refused, read}
 use Rattle.descriptor.specs.inner.Standing.{isRead, nextOf}
 use Rattle.descriptor.proofs.Outcomes.{holds-read}
@@ -25,6 +25,7 @@ use Rattle.flattened.proofs.Progresses.{progress-reads, progress-refused}
 use Rattle.flattened.proofs.Repeats.{repeat-one, repeat-split}
 use Rattle.flattened.proofs.Types.{type-solid}
 use Rattle.access.specs.inner.Past.{valuesAt, Values, pastValues, aroundEnd}
+use Rattle.access.specs.inner.Spots.{Lies}
 use Rattle.access.proofs.Arounds.{run-stops}
 use Rattle.access.proofs.Outcomes.{Got, got-read, next-is, follow-first, follow-second}
 
@@ -83,6 +84,9 @@ module _ (d : List ℕ) (p : ℕ) (s : List ℕ) (at : ℕ) where
   -- one value
   pub one-value : valuesAt d p 1 s at ≡ walk big (typeAt d p) s at
   one-value = repeat-one (λ a. walk big (typeAt d p) s a) at
+
+  pub one-lies : Values d p 1 s at → Lies d p depthLimit s at
+  one-lies values = record { type = values .type; bytes = values .bytes; read = ap isRead (sym one-value) ∙ values .read }
 
   -- the first k of n values that are read, and value k itself
   module _ (k n : ℕ) (fewer : k < n) (all : isRead (valuesAt d p n s at) ≡ true) where

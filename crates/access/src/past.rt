@@ -1,5 +1,8 @@
 // Past values of one type in accepted data.
+use descriptor::codes::Kind;
+use descriptor::codes::kind_of;
 use descriptor::header::code_at;
+use descriptor::inside::inside_of;
 use descriptor::limits::DEPTH_LIMIT;
 use descriptor::width::width;
 use flattened::cursor::Cursor;
@@ -8,13 +11,16 @@ use flattened::extent::extent_of;
 use flattened::order::Order;
 use flattened::order::number_4;
 use flattened::progress::Progress;
+use flattened::sizes::Sizes;
+use flattened::sizes::size_words;
 use walking::walk::walk;
 ghost use mathlib.Core.Path.{_≡_};
-ghost use Prim.Native.Nat.{_+_, _*_, _≤_};
-ghost use Rattle.descriptor.specs.Limits.{dataLimit};
+ghost use Prim.Native.Nat.{_+_, _-_, _*_, _≤_};
+ghost use Rattle.descriptor.specs.Limits.{dataLimit, depthLimit};
 ghost use Rattle.flattened.specs.inner.Cursor.{cursor};
 ghost use Rattle.flattened.specs.inner.Types.{DataAt};
-ghost use Rattle.access.specs.inner.Past.{Values, pastValues, aroundEnd};
+ghost use Rattle.access.specs.inner.Past.{Values, pastValues, aroundEnd, pastArray};
+ghost use Rattle.access.specs.inner.Spots.{ArrayLies};
 
 // Where n values end that are all in the data, the first at `from`, each of `before` bytes, a string and `after` bytes.
 fn past_around(before: usize, after: usize, n: usize, s: &[u8], from: Cursor) -> Cursor
@@ -69,14 +75,33 @@ pub fn past(d: &[u8], p: usize, n: usize, s: &[u8], from: Cursor) -> Cursor
     }
 }
 
-// Where one ends. A scalar takes its width.
+// Where the array of `dims` dimensions ends whose elements are of the type at p.
+fn past_array(d: &[u8], p: usize, dims: usize, s: &[u8], from: Cursor) -> Cursor
+    requires { ⌜ ArrayLies (now d) p dims (depthLimit - 1) (now s) (from .at) ⌝ }
+    ensures { λ r. ⌜ r ≡ pastArray (now (d .entry)) p dims (now (s .entry)) (from .at) ⌝ }
+{
+    let sizes = size_words(s, from, dims, Order::Big);
+    match sizes {
+        // The sizes of accepted data are not refused.
+        Sizes::Refused(number, place) => from,
+        Sizes::Count(count, elements) => past(d, p, count, s, elements),
+    }
+}
+
+// Where one value ends. A scalar takes its width, and an array's elements need no walk where those of their type don't.
 pub fn past_one(d: &[u8], p: usize, s: &[u8], from: Cursor) -> Cursor
     requires { ⌜ Values (now d) p 1 (now s) (from .at) ⌝ }
     ensures { λ r. ⌜ r ≡ pastValues (now (d .entry)) p 1 (now (s .entry)) (from .at) ⌝ }
 {
-    let w = width(code_at(d, p));
+    let code = code_at(d, p);
+    let w = width(code);
     if w != 0 {
         return past_fixed(w, 1, from);
+    }
+    let k = kind_of(code);
+    if let Kind::Array = k {
+        let inside = inside_of(d, p);
+        return past_array(d, inside.at, inside.count, s, from);
     }
     past(d, p, 1, s, from)
 }

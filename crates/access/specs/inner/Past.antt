@@ -9,6 +9,7 @@ use Rattle.descriptor.specs.inner.Standing.{isRead, nextOf}
 use Rattle.flattened.specs.Order.{big}
 use Rattle.flattened.specs.Token.{Token}
 use Rattle.flattened.specs.Walk.{repeat, walk}
+use Rattle.flattened.specs.inner.Arrays.{elementsAt}
 use Rattle.flattened.specs.inner.Cursor.{cursor}
 use Rattle.flattened.specs.inner.Columns.{placeOf}
 use Rattle.flattened.specs.inner.Types.{typeAt, TypeStands, DataAt}
@@ -32,3 +33,7 @@ pastValues d p n s at = cursor (nextOf (valuesAt d p n s at))
 -- where n values of so many bytes before and after a string end
 abbrev pub aroundEnd : ℕ → ℕ → List ℕ → ℕ → ℕ → ℕ
 aroundEnd before after s at n = placeOf big s (Around before after 0 false) at n
+
+-- where the array of k dimensions at `at` ends, whose elements are of the type at p
+unfoldable pub pastArray : List ℕ → ℕ → ℕ → List ℕ → ℕ → Cursor
+pastArray d p k s at = cursor (nextOf (elementsAt big k (λ a. walk big (typeAt d p) s a) s at))
