@@ -88,20 +88,27 @@ fn past_array(d: &[u8], p: usize, dims: usize, s: &[u8], from: Cursor) -> Cursor
     }
 }
 
-// Where one value ends. A scalar takes its width, and an array's elements need no walk where those of their type don't.
+// Where one value ends. Where an array's elements need no walk, it needs none.
 pub fn past_one(d: &[u8], p: usize, s: &[u8], from: Cursor) -> Cursor
     requires { ⌜ Values (now d) p 1 (now s) (from .at) ⌝ }
     ensures { λ r. ⌜ r ≡ pastValues (now (d .entry)) p 1 (now (s .entry)) (from .at) ⌝ }
 {
-    let code = code_at(d, p);
-    let w = width(code);
-    if w != 0 {
-        return past_fixed(w, 1, from);
-    }
-    let k = kind_of(code);
+    let k = kind_of(code_at(d, p));
     if let Kind::Array = k {
         let inside = inside_of(d, p);
         return past_array(d, inside.at, inside.count, s, from);
     }
     past(d, p, 1, s, from)
+}
+
+// The same for a member, which is mostly a scalar: that takes its width.
+pub fn past_member(d: &[u8], p: usize, s: &[u8], from: Cursor) -> Cursor
+    requires { ⌜ Values (now d) p 1 (now s) (from .at) ⌝ }
+    ensures { λ r. ⌜ r ≡ pastValues (now (d .entry)) p 1 (now (s .entry)) (from .at) ⌝ }
+{
+    let w = width(code_at(d, p));
+    if w != 0 {
+        return past_fixed(w, 1, from);
+    }
+    past_one(d, p, s, from)
 }

@@ -1,17 +1,11 @@
--- `past_one` meets its contract: a scalar's extent is its width, and an array ends where its elements do. Rests on `Runs` and `Stepping`.
+-- `past_one` meets its contract: an array ends where its elements do. Rests on `Runs` and `Stepping`.
 use mathlib.Core.Path.{ap, _∙_}
-use native.Mathlib.Omega.{arith}
 use denote.Ref.{now}
 use Rattle.descriptor.specs.Codes.{kindOf}
-use Rattle.descriptor.specs.Width.{widthOf}
 use Rattle.descriptor.specs.declared.codes.Kind.the-variants as kinds
 use Rattle.descriptor.proofs.Bodies.{header-room}
 use Rattle.descriptor.proofs.CodeKinds.{kindNamed, known}
-use Rattle.flattened.specs.inner.Extent.{typeRule, judges}
-use Rattle.flattened.specs.inner.Types.{typeAt}
-use Rattle.flattened.specs.declared.extent.Extent.the-variants.{Fixed}
-use Rattle.flattened.proofs.Cases.{extent-number}
-use Rattle.access.proofs.Runs.{fixed-inside, fixed-past, one-lies}
+use Rattle.access.proofs.Runs.{one-lies}
 use Rattle.access.proofs.Stepping.{array-lies, array-one}
 use borrow.Author.Needs.{needs}
 use Rattle.access.proofs.past.past_one.Statement.{statement}
@@ -19,25 +13,6 @@ use Rattle.access.proofs.past.past_one.Tie as tie
 
 code-at-requires : tie.Need-code-at-requires
 code-at-requires c κs = let start = c .before .before in header-room (now (start .args .d)) (start .args .p) (start .pre .type .here)
-
-width-requires : tie.Need-width-requires
-width-requires c κs = search needs
-
-past-fixed-requires : tie.Need-past-fixed-requires
-past-fixed-requires c κs =
-    let start = c .before .before .before .before .before in
-    let a = start .args in
-    let wide = c .before .width .ensures ∙ ap widthOf (c .before .before .code-at .ensures) in
-    let known = (λ i. Fixed (wide i) 1 (judges (typeRule (typeAt (now (a .d)) (a .p))))) ∙ extent-number (now (a .d)) (a .p) (start .pre .type .here) (omega (arith, c .if1 .taken, wide)) in
-    fixed-inside (now (a .d)) (a .p) 1 (now (a .s)) (a .from .at) (start .pre) _ _ _ known
-
-returns : tie.Need-returns
-returns c =
-    let start = c .before .before .before .before .before .before in
-    let a = start .args in
-    let wide = c .before .before .width .ensures ∙ ap widthOf (c .before .before .before .code-at .ensures) in
-    let known = (λ i. Fixed (wide i) 1 (judges (typeRule (typeAt (now (a .d)) (a .p))))) ∙ extent-number (now (a .d)) (a .p) (start .pre .type .here) (omega (arith, c .before .if1 .taken, wide)) in
-    fixed-past (now (a .d)) (a .p) 1 (now (a .s)) (a .from .at) (start .pre) _ _ _ known _ (c .past-fixed .ensures)
 
 kind-of-requires : tie.Need-kind-of-requires
 kind-of-requires c κs = search needs
@@ -51,37 +26,34 @@ inside-of-requires c κs = search needs
 past-array-requires : tie.Need-past-array-requires
 unfolding kindNamed
 past-array-requires c κs =
-    let start = c .before .before .before .before .before .before .before .before .before in
+    let start = c .before .before .before .before .before .before .before in
     let a = start .args in
-    let kind = known _ kinds.Array (kindOf (c .before .before .before .before .before .before .code-at .result)) (c .before .before .before .kind-of .ensures) (c .before .enum-told .given .1) ∙ ap kindOf (c .before .before .before .before .before .before .code-at .ensures) in
+    let kind = known _ kinds.Array (kindOf (c .before .before .before .before .code-at .result)) (c .before .before .before .kind-of .ensures) (c .before .enum-told .given .1) ∙ ap kindOf (c .before .before .before .before .code-at .ensures) in
     array-lies (now (a .d)) (a .p) 0 0 (now (a .s)) (a .from .at) (one-lies (now (a .d)) (a .p) (now (a .s)) (a .from .at) (start .pre)) _ (c .inside-of .ensures) kind
 
-returns-2 : tie.Need-returns-2
+returns : tie.Need-returns
 unfolding kindNamed
-returns-2 c =
-    let start = c .before .before .before .before .before .before .before .before .before .before in
+returns c =
+    let start = c .before .before .before .before .before .before .before .before in
     let a = start .args in
-    let kind = known _ kinds.Array (kindOf (c .before .before .before .before .before .before .before .code-at .result)) (c .before .before .before .before .kind-of .ensures) (c .before .before .enum-told .given .1) ∙ ap kindOf (c .before .before .before .before .before .before .before .code-at .ensures) in
+    let kind = known _ kinds.Array (kindOf (c .before .before .before .before .before .code-at .result)) (c .before .before .before .before .kind-of .ensures) (c .before .before .enum-told .given .1) ∙ ap kindOf (c .before .before .before .before .before .code-at .ensures) in
     array-one (now (a .d)) (a .p) 0 0 (now (a .s)) (a .from .at) (one-lies (now (a .d)) (a .p) (now (a .s)) (a .from .at) (start .pre)) _ (c .before .inside-of .ensures) kind _ (c .past-array .ensures)
 
 past-requires : tie.Need-past-requires
 past-requires c κs = search needs
 
-returns-3 : tie.Need-returns-3
-returns-3 c = search needs
+returns-2 : tie.Need-returns-2
+returns-2 c = search needs
 
 pub past-one-spec : {M : Type 1} → statement M
 past-one-spec =
     tie.close
     (tie.spec
     code-at-requires
-    width-requires
-    past-fixed-requires
-    returns
     kind-of-requires
     enum-told
     inside-of-requires
     past-array-requires
-    returns-2
+    returns
     past-requires
-    returns-3)
+    returns-2)
