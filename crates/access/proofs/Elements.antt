@@ -1,5 +1,5 @@
 -- A step into an array of accepted data: it leads nowhere from the element count on, and else past as many elements. The count is cut at
--- 2^32, which no step number reaches. Rests on the laws of values in a row.
+-- 2^32, which no step number reaches. And past an array: past all its elements. Rests on the laws of values in a row.
 use mathlib.Core.Path.{_≡_, sym, ap, _∙_}
 use mathlib.Core.Bool.{true}
 use mathlib.Core.List.{List, _∷_}

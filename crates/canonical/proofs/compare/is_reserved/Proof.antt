@@ -1,10 +1,10 @@
 -- `is_reserved` looks for the descriptor that q is in. The invariant: a no from here is a no from the start. Rests on `Unlike`.
-use mathlib.Core.Path.{sym, ap, _∙_}
+use mathlib.Core.Path.{ap}
 use Prim.Native.Nat.{ℕ, _+_, _-_}
 use native.Mathlib.Omega.{arith}
 use denote.Ref.{now}
 use lib.ListN.{length}
-use Rattle.canonical.proofs.Turns.{Turn, Taken, taken, turn-stands}
+use Rattle.canonical.proofs.Turns.{taken, turn-stands}
 use Rattle.canonical.proofs.Unlike.{Sought, sought-begin, telling-yes, sought-end, sought-turn, sought-past, sought-leaf, sought-body, sought-inside}
 use Rattle.canonical.proofs.compare.is_reserved.Statement.{statement}
 use Rattle.canonical.proofs.compare.is_reserved.Tie as tie
