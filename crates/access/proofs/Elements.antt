@@ -1,5 +1,5 @@
 -- A step into an array of accepted data: it leads nowhere from the element count on, and else past as many elements. The count is cut at
--- 2^32, which no step number reaches. Rests on the laws of values in a row.
+-- 2^32, which no step number reaches. And past an array: past all its elements. Rests on the laws of values in a row.
 use mathlib.Core.Path.{_≡_, sym, ap, _∙_}
 use mathlib.Core.Bool.{true}
 use mathlib.Core.List.{List, _∷_}
@@ -21,12 +21,14 @@ use Rattle.flattened.specs.inner.Types.{typeAt}
 use Rattle.flattened.specs.declared.cursor.Cursor.{Cursor}
 use Rattle.flattened.specs.declared.sizes.Sizes.the-variants.{Count, Refused}
 use Rattle.flattened.proofs.Arms.{walk-one}
-use Rattle.flattened.proofs.Forward.{sizes-end}
+use Rattle.flattened.proofs.Capped.{repeat-capped}
+use Rattle.flattened.proofs.Forward.{walk-forward, sizes-end}
+use Rattle.flattened.proofs.Types.{type-solid}
 use Rattle.access.specs.Path.{memberAt, stepAt}
-use Rattle.access.specs.inner.Past.{valuesAt, Values, pastValues}
+use Rattle.access.specs.inner.Past.{valuesAt, Values, pastValues, pastArray}
 use Rattle.access.specs.inner.Spots.{ArrayLies, reached, Known, Reaches}
 use Rattle.access.specs.declared.reach.Reach.the-variants.{To, Lost}
-use Rattle.access.proofs.Outcomes.{Got, got-read, then-first, then-second, then-next}
+use Rattle.access.proofs.Outcomes.{Got, got-read, then-first, then-second, then-next, then-last}
 use Rattle.access.proofs.Runs.{values-inside, first-values, value-read}
 use Rattle.access.proofs.Types.{deeper}
 
@@ -69,6 +71,32 @@ module _ (d : List ℕ) (p dims left : ℕ) (s : List ℕ) (at : ℕ) (lies : Ar
 
     pub elements-inside : c .at ≤ length s
     elements-inside = let ends = holds-read (sized .eq) (sizes-end s big dims at) in omega (arith, place, ends .1)
+
+    -- as many elements as there are sizes for, or as the cut leaves
+    capped : valuesAt d p (sized .what) s elements ≡ valuesAt d p n s (c .at)
+    capped =
+        let solid = type-solid d p left (lies .type) in
+        let inside : elements ≤ length s = omega (arith, place, elements-inside) in
+        repeat-capped s (λ a. walk big (typeAt d p) s a) (λ a l. walk-forward s (typeAt d p) solid big a l) (lies .bytes .short) (sized .what) elements inside
+        ∙ (λ j. valuesAt d p (sym many j) s (sym place j))
+
+    -- all the elements
+    pub array-values : Values d p n s (c .at)
+    array-values = record {
+      type = deeper (lies .type) low;
+      bytes = record { inside = elements-inside; short = lies .bytes .short };
+      read = ap isRead (sym capped) ∙ all;
+    }
+
+    -- where they end the array does
+    pub array-past : (r : Cursor) → r ≡ pastValues d p n s (c .at) → r ≡ pastArray d p dims s at
+    unfolding pastValues pastArray
+    array-past r e =
+        e
+        ∙ ap cursor (sym (
+        rw (sized .eq)
+        (then-last (valuesAt d p (sized .what) s elements) (λ last ts. token (sizes dims) at elements ∷ ts) all ∙ ap nextOf capped)
+        ))
 
     module _ (k i : ℕ) (small : k < 2 ^ 32) (shallow : i < depthLimit) where
       -- from the element count on

@@ -1,4 +1,5 @@
 pub mod Outcomes
+pub mod Arounds
 pub mod Runs
 pub mod Types
 pub mod Elements

@@ -51,3 +51,9 @@ pub then-next : {A B : Type 0} (o : Outcome A) (g : ℕ → Outcome B) → isRea
 unfolding isRead nextOf
 then-next (refused number place) g e = impossible e
 then-next (read q x) g e = refl
+
+-- and where it ends, if what follows takes nothing
+pub then-last : {A B : Type 0} (o : Outcome A) (g : ℕ → A → B) → isRead o ≡ true → nextOf (andThen o (λ q x. read q (g q x))) ≡ nextOf o
+unfolding isRead nextOf
+then-last (refused number place) g e = impossible e
+then-last (read q x) g e = refl

@@ -1,11 +1,12 @@
 -- Values of one type in a row, in accepted data: where their extent is fixed, n of them end n times that many bytes on, the numbers that
--- are judged included, since they were accepted. Rests on the laws of extents.
+-- are judged included, since they were accepted; where each has one string, past their strings. Rests on the laws of extents.
 use mathlib.Core.Path.{_≡_, sym, ap, _∙_}
 use mathlib.Core.Bool.{Bool, true}
 use mathlib.Core.List.{List}
 use Prim.Native.Nat.{ℕ, suc, _+_, _-_, _*_, _<_, _≤_}
 use native.Mathlib.Omega.{arith}
 use lib.ListN.{length}
+use Rattle.descriptor.specs.Limits.{depthLimit, dataLimit}
 use Rattle.descriptor.specs.Outcome.{refused, read}
 use Rattle.descriptor.specs.inner.Standing.{isRead, nextOf}
 use Rattle.descriptor.proofs.Outcomes.{holds-read}
@@ -14,16 +15,18 @@ use Rattle.flattened.specs.Walk.{follow, repeat, walk}
 use Rattle.flattened.specs.inner.Cursor.{cursor}
 use Rattle.flattened.specs.inner.Extent.{extentOf}
 use Rattle.flattened.specs.inner.Progress.{progress}
-use Rattle.flattened.specs.inner.Types.{typeAt}
+use Rattle.flattened.specs.inner.Types.{typeAt, DataAt}
 use Rattle.flattened.specs.declared.cursor.Cursor.{Cursor}
-use Rattle.flattened.specs.declared.extent.Extent.the-variants.{Fixed}
+use Rattle.flattened.specs.declared.extent.Extent.the-variants.{Fixed, Around}
 use Rattle.flattened.specs.declared.progress.Progress.the-variants.{Walked, Refused}
 use Rattle.flattened.proofs.Extents.{run-ends}
 use Rattle.flattened.proofs.Forward.{walk-forward, repeat-forward}
 use Rattle.flattened.proofs.Progresses.{progress-reads, progress-refused}
 use Rattle.flattened.proofs.Repeats.{repeat-one, repeat-split}
 use Rattle.flattened.proofs.Types.{type-solid}
-use Rattle.access.specs.inner.Past.{valuesAt, Values, pastValues}
+use Rattle.access.specs.inner.Past.{valuesAt, Values, pastValues, aroundEnd}
+use Rattle.access.specs.inner.Spots.{Lies}
+use Rattle.access.proofs.Arounds.{run-stops}
 use Rattle.access.proofs.Outcomes.{Got, got-read, next-is, follow-first, follow-second}
 
 module _ (d : List ℕ) (p n : ℕ) (s : List ℕ) (at : ℕ) (values : Values d p n s at) where
@@ -43,12 +46,27 @@ module _ (d : List ℕ) (p n : ℕ) (s : List ℕ) (at : ℕ) (values : Values d
 
   -- a fixed extent: one step for all
   module _ (w k : ℕ) (j : Bool) (known : Fixed w k j ≡ extentOf (typeAt d p)) where
-    pub fixed-ends : nextOf (valuesAt d p n s at) ≡ at + n * w
+    fixed-ends : nextOf (valuesAt d p n s at) ≡ at + n * w
     fixed-ends = holds-read (got .eq) (run-ends s (typeAt d p) w k j (sym known) big n at) .at
 
-    pub fixed-past : cursor (at + n * w) ≡ pastValues d p n s at
+    pub fixed-inside : at + n * w ≤ dataLimit
+    fixed-inside = omega (arith, fixed-ends, values-inside .within, values .bytes .short)
+
+    pub fixed-past : (r : Cursor) → r ≡ cursor (at + n * w) → r ≡ pastValues d p n s at
     unfolding pastValues
-    fixed-past = ap cursor (sym fixed-ends)
+    fixed-past r e = e ∙ ap cursor (sym fixed-ends)
+
+  -- one string in each
+  module _ (before after k : ℕ) (j : Bool) (known : Around before after k j ≡ extentOf (typeAt d p)) where
+    around-ends : nextOf (valuesAt d p n s at) ≡ aroundEnd before after s at n
+    around-ends = holds-read (got .eq) (run-stops before after s (typeAt d p) k j (sym known) n at)
+
+    pub around-inside : DataAt s (aroundEnd before after s at n)
+    around-inside = record { inside = omega (arith, around-ends, values-inside .within); short = values .bytes .short }
+
+    pub around-past : (r : Cursor) → r ≡ cursor (aroundEnd before after s at n) → r ≡ pastValues d p n s at
+    unfolding pastValues
+    around-past r e = e ∙ ap cursor (sym around-ends)
 
   -- the walk of them
   pub walked-past : (c : Cursor) (k : ℕ) → Walked c k ≡ progress (valuesAt d p n s at) → c ≡ pastValues d p n s at
@@ -66,6 +84,9 @@ module _ (d : List ℕ) (p : ℕ) (s : List ℕ) (at : ℕ) where
   -- one value
   pub one-value : valuesAt d p 1 s at ≡ walk big (typeAt d p) s at
   one-value = repeat-one (λ a. walk big (typeAt d p) s a) at
+
+  pub one-lies : Values d p 1 s at → Lies d p depthLimit s at
+  one-lies values = record { type = values .type; bytes = values .bytes; read = ap isRead (sym one-value) ∙ values .read }
 
   -- the first k of n values that are read, and value k itself
   module _ (k n : ℕ) (fewer : k < n) (all : isRead (valuesAt d p n s at) ≡ true) where

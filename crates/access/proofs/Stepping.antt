@@ -7,21 +7,26 @@ use native.Mathlib.Omega.{arith}
 use Rattle.descriptor.specs.Codes.{array, cluster, kindOf}
 use Rattle.descriptor.specs.Header.{codeIn}
 use Rattle.descriptor.specs.Limits.{depthLimit, dimensionLimit}
-use Rattle.descriptor.specs.Outcome.{refused}
+use Rattle.descriptor.specs.Outcome.{Outcome, refused}
 use Rattle.descriptor.specs.Tree.{Fields, empty, items, pairs, text, dimensions, members, Tree, node, Forest, nil, cons, countOf, childCount}
-use Rattle.descriptor.specs.inner.Standing.{isRead, insideOf}
+use Rattle.descriptor.specs.inner.Standing.{isRead, nextOf, insideOf}
 use Rattle.descriptor.specs.declared.inside.Inside.{Inside}
 use Rattle.flattened.specs.Order.{big}
+use Rattle.flattened.specs.Token.{Token}
 use Rattle.flattened.specs.Walk.{walk, walkAll}
 use Rattle.flattened.specs.inner.Arrays.{elementsAt}
+use Rattle.flattened.specs.inner.Cursor.{cursor}
 use Rattle.flattened.specs.inner.Types.{typeAt, typesAt, TypeStands, RowStands, fieldsKind}
+use Rattle.flattened.specs.declared.cursor.Cursor.{Cursor}
 use Rattle.flattened.proofs.Arms.{walk-array, walk-cluster, walk-one}
 use Rattle.flattened.proofs.Cases.{hasInside, counted-inside, types-inside, row-inside}
 use Rattle.flattened.proofs.Types.{TypeMade, type-made, type-deep, Counted}
 use Rattle.access.specs.Path.{memberAt, stepAt, stepInto}
+use Rattle.access.specs.inner.Past.{pastValues, pastArray}
 use Rattle.access.specs.inner.Spots.{Lies, ArrayLies, RowLies, reached, Known, Reaches}
 use Rattle.access.specs.declared.reach.Reach.{Reach}
 use Rattle.access.specs.declared.reach.Reach.the-variants.{Lost}
+use Rattle.access.proofs.Runs.{one-value}
 use Rattle.access.proofs.Types.{only-type}
 
 module _ (i : ℕ) (f : Forest) (k : ℕ) (s : List ℕ) (at : ℕ) where
@@ -146,17 +151,25 @@ module _ (d : List ℕ) (p i k : ℕ) (s : List ℕ) (at : ℕ) (lies : Lies d p
       dims : inside .count ≡ countOf (made .fields)
       dims = counted-inside d p (lies .type .here) inside seen
 
+      pub array-walk : walk big (typeAt d p) s at ≡ elementsAt big (inside .count) (λ a. walk big (typeAt d (inside .at)) s a) s at
+      array-walk =
+          ap (λ (t : Tree). walk big t s at) (made .tree)
+          ∙ walk-array (made .code) (made .fields) (made .inner) (made .name) big s at (made .kind ∙ sym kind)
+          ∙ (λ j. elementsAt big (countOf (made .fields)) (λ a. walkAll big (element j) s a) s at)
+          ∙ (λ j. elementsAt big (sym dims j) (λ a. walk-one big (typeAt d (inside .at)) s a j) s at)
+
       pub array-lies : ArrayLies d (inside .at) (inside .count) (depthLimit - (i + 1)) s at
       array-lies = record {
         type = alone .0;
         few = omega (arith, dims, array-few (made .fields) (made .kind ∙ sym kind) (made .counted));
         bytes = lies .bytes;
-        read =
-            (λ j. isRead (elementsAt big (dims j) (λ a. sym (walk-one big (typeAt d (inside .at)) s a) j) s at))
-            ∙ (λ j. isRead (elementsAt big (countOf (made .fields)) (λ a. walkAll big (sym element j) s a) s at))
-            ∙ ap isRead (sym (walk-array (made .code) (made .fields) (made .inner) (made .name) big s at (made .kind ∙ sym kind)))
-            ∙ whole;
+        read = ap isRead (sym array-walk) ∙ lies .read;
       }
+
+      -- it ends where its elements do
+      pub array-one : (r : Cursor) → r ≡ pastArray d (inside .at) (inside .count) s at → r ≡ pastValues d p 1 s at
+      unfolding pastArray pastValues
+      array-one r e = e ∙ ap (λ (o : Outcome (List Token)). cursor (nextOf o)) (sym array-walk ∙ sym (one-value d p s at))
 
       pub array-reached : (r : Reach)
           → Reaches d (depthLimit - (i + 1)) s (stepAt i (dimensions (inside .count)) (cons (typeAt d (inside .at)) nil) k s at) r

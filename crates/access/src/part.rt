@@ -1,5 +1,5 @@
 // The part of data at a path.
-use super::past::past;
+use super::past::past_one;
 use super::reach::Reach;
 use super::steps::spot_at;
 use descriptor::answer::Answer;
@@ -44,7 +44,7 @@ pub fn locate(d: &[u8], s: &[u8], path: &[u32]) -> Part
         Reach::Lost(i) => no_part(answered(30, 4, i)),
         Reach::To(p, from) => {
             let start = from.at;
-            let end = past(d, p, 1, s, from);
+            let end = past_one(d, p, s, from);
             let answer = answered(0, 0, 0);
             Part {
                 answer,

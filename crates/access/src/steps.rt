@@ -1,5 +1,6 @@
 // The steps of a path in accepted data.
 use super::past::past;
+use super::past::past_member;
 use super::reach::Reach;
 use descriptor::codes::Kind;
 use descriptor::codes::kind_of;
@@ -49,7 +50,7 @@ fn member(d: &[u8], start: usize, n: usize, k: usize, i: usize, s: &[u8], from: 
     let mut next = from;
     let mut m = 0;
     while m < k {
-        next = past(d, p, 1, s, next);
+        next = past_member(d, p, s, next);
         p += size_at(d, p);
         m += 1;
     }

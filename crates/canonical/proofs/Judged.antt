@@ -6,7 +6,6 @@ use Prim.Native.Nat.{ℕ, _≤_, _<_}
 use native.Mathlib.Omega.{arith}
 use borrow.Author.Tests.{le-leb, lt-leb}
 use lib.ListN.{length, getD, take, drop}
-use lib.Seq.{slice}
 use Rattle.descriptor.specs.Limits.{descriptorLimit}
 use Rattle.descriptor.specs.Tree.{Tree, rowCount}
 use Rattle.descriptor.specs.Encoding.{encode}
@@ -19,13 +18,12 @@ use Rattle.descriptor.specs.inner.Steps.{counted}
 use Rattle.descriptor.specs.declared.step.Step.{Step}
 use Rattle.descriptor.proofs.Steps.{got, impossible}
 use Rattle.descriptor.proofs.Standing.{accepted-standing}
-use Rattle.encoding.proofs.Slices.{slice-all}
 use Rattle.canonical.specs.Equality.{sameTree, notCompared, bothCompared, comparison}
 use Rattle.canonical.specs.Normal.{normalForm}
-use Rattle.canonical.specs.inner.Walk.{Accepted, sameRun, sameWithin, clearForest}
+use Rattle.canonical.specs.inner.Walk.{Accepted, sameWithin, clearForest}
 use Rattle.canonical.specs.declared.Compared.{Compared}
 use Rattle.canonical.proofs.Lists.{bytes-of, bool-same}
-use Rattle.canonical.proofs.Same.{chars-same, same-refl}
+use Rattle.canonical.proofs.Same.{same-refl}
 use Rattle.canonical.proofs.Whole.{walk-accepts, differ-long, same-long, normal-length, normal-cleared}
 
 -- what the check of s came to: a tree
@@ -35,13 +33,6 @@ judged-accepted s r e ok = let g = got rowCount (λ _. 0) (checked s) r e ok in 
 -- an accepted descriptor is no longer than is carried
 pub accepted-small : (s : List ℕ) → Accepted s → length s ≤ descriptorLimit
 accepted-small s a = accepted-standing s (a .at) (a .tree) (a .eq) .1 .1
-
--- bytes of one length that are the same from the first to the last are the same
-pub whole-same : (a b : List ℕ) → length a ≡ length b → sameRun a b 0 (length a) ≡ true → a ≡ b
-unfolding sameRun
-whole-same a b long e =
-    let all = chars-same (slice 0 (length a) b) (slice 0 (length a) a) e in
-    sym (slice-all a (length a) refl) ∙ (sym all ∙ slice-all b (length a) (sym long))
 
 -- the comparison of a and b
 module _ (a b : List ℕ) where

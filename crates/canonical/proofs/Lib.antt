@@ -1,7 +1,9 @@
 pub mod Same
 pub mod Lists
+pub mod Fronts
 pub mod Turns
 pub mod Spelled
 pub mod Cleared
 pub mod Whole
+pub mod Unlike
 pub mod Judged

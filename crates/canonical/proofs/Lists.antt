@@ -2,17 +2,15 @@
 use mathlib.Core.Path.{_≡_, refl, sym, ap, _∙_}
 use mathlib.Core.Bool.{Bool, true, false, _&&_}
 use mathlib.Core.List.{List, [], _∷_, _++_}
-use Prim.Native.Nat.{ℕ, zero, suc, _+_, _-_, _<_}
+use Prim.Native.Nat.{ℕ, zero, suc, _-_, _<_}
 use native.Mathlib.Nat.{sub-zero, zero-sub, suc-sub-suc}
 use native.Mathlib.Omega.{arith}
 use lib.Dec.{eqb}
 use lib.ListN.{length, getD, take, drop}
-use lib.Seq.{slice, slice-empty, length-slice}
-use borrow.Author.Tests.{eq-eqb, ne-eqb}
+use lib.Seq.{slice}
+use borrow.Author.Tests.{eq-eqb}
 use Rattle.descriptor.specs.Encoding.{Bytes}
-use Rattle.encoding.proofs.Slices.{slice-more, slice-join}
 use Rattle.canonical.specs.Equality.{sameList, sameChars}
-use Rattle.canonical.specs.inner.Walk.{sameRun}
 
 -- tests in a row may be grouped either way
 pub and-assoc : (a b c : Bool) → ((a && b) && c) ≡ (a && (b && c))
@@ -57,41 +55,9 @@ part-slice (suc f) zero l = ap (λ (n : ℕ). take n (drop (suc f) l)) (zero-sub
 part-slice (suc f) (suc t) [] = take-none (suc t - suc f)
 part-slice (suc f) (suc t) (x ∷ l) = ap (λ (n : ℕ). take n (drop f l)) (suc-sub-suc t f) ∙ part-slice f t l
 
--- one test and one that fails, or that holds
-and-false : (x : Bool) → (x && false) ≡ false
-and-false true = refl
-and-false false = refl
-
-and-holds : (x : Bool) → (x && true) ≡ x
-and-holds true = refl
-and-holds false = refl
-
--- runs from the front of a and b
-module _ (a b : List ℕ) where
-  -- no bytes are the same
-  pub run-none : sameRun a b 0 0 ≡ true
-  unfolding sameRun sameList
-  run-none = refl
-
-  -- all but the last, and the last
-  run-last : (i : ℕ) → i < length a → i < length b → sameRun a b 0 (i + 1) ≡ (sameRun a b 0 i && (eqb (getD b i 0) (getD a i 0) && true))
-  unfolding sameRun sameList
-  run-last i ha hb =
-      (λ j. sameChars (sym (front b hb) j) (sym (front a ha) j))
-      ∙ same-append (slice 0 i b) (slice 0 i a) (getD b i 0 ∷ []) (getD a i 0 ∷ []) (omega (arith, length-slice 0 i b (omega arith), length-slice 0 i a (omega arith)))
-    where
-      front : (s : List ℕ) → i < length s → slice 0 i s ++ (getD s i 0 ∷ []) ≡ slice 0 (i + 1) s
-      front s h =
-          ap (λ (l : List ℕ). slice 0 i s ++ l)
-          (sym (slice-more i (i + 1) s 0 (omega arith) (omega arith) ∙ ap (λ (l : List ℕ). getD s i 0 ∷ l) (slice-empty (i + 1) s)))
-          ∙ slice-join 0 i (i + 1) s (omega arith) (omega arith)
-
-  -- a last one that differs
-  pub last-differs : (i : ℕ) → i < length a → i < length b → (getD a i 0 ≡ getD b i 0 → ⊥) → false ≡ sameRun a b 0 (i + 1)
-  last-differs i ha hb differ =
-      sym (run-last i ha hb ∙ ap (λ (t : Bool). sameRun a b 0 i && (t && true)) (ne-eqb (getD b i 0) (getD a i 0) (λ e. differ (sym e))) ∙ and-false (sameRun a b 0 i))
-
-  -- and one that is the same
-  pub last-same : (i : ℕ) → i < length a → i < length b → getD a i 0 ≡ getD b i 0 → sameRun a b 0 i ≡ sameRun a b 0 (i + 1)
-  last-same i ha hb same =
-      sym (run-last i ha hb ∙ ap (λ (t : Bool). sameRun a b 0 i && (t && true)) (eq-eqb (getD b i 0) (getD a i 0) (sym same)) ∙ and-holds (sameRun a b 0 i))
+-- the last of four tests fails
+pub and-last : (x y z : Bool) → (x && (y && (z && false))) ≡ false
+and-last false y z = refl
+and-last true false z = refl
+and-last true true false = refl
+and-last true true true = refl

@@ -24,7 +24,7 @@ use Rattle.descriptor.specs.Header.{reservedIn}
 use Rattle.encoding.proofs.Sound.{read-sound}
 use Rattle.canonical.specs.Equality.{sameChars}
 use Rattle.canonical.specs.inner.Walk.{RowInside, sameRun, respelled, sameWithin}
-use Rattle.canonical.proofs.Lists.{and-assoc, same-append, same-cons, bytes-of}
+use Rattle.canonical.proofs.Lists.{and-assoc, and-last, same-append, same-cons, bytes-of}
 use Rattle.canonical.proofs.Turns.{Turn, Taken, row-begin, row-more}
 
 -- the parts of a descriptor's bytes that its reserved byte and its inner descriptors have no part in
@@ -130,6 +130,13 @@ module _ (a b : List ℕ) (bytes : Bytes a) (long : length a ≤ length b) where
     -- where the sizes differ
     pub size-stop : sameRun a b p (reservedAt p) ≡ false → sameWithin a b (suc j) p stop ≡ false
     size-stop differ = rw (turn-same, differ)
+
+    -- where the others differ
+    pub others-stop : sameWithin a b j (p + sizeIn a p) stop ≡ false → sameWithin a b (suc j) p stop ≡ false
+    others-stop differ =
+        rw (turn-same, differ)
+        (and-last (sameRun a b p (reservedAt p)) (sameRun a b (codeAt p) (insideAt p (turn .body)))
+        (sameWithin a b (childCount (turn .body)) (insideAt p (turn .body)) (p + sizeIn a p)))
 
   -- the same by what the code has read, the sizes being the same
   module _ (j p stop levels size : ℕ) (f : Inside) (k : Taken a j p stop levels size f) (sized : sameRun a b p (reservedAt p) ≡ true) where

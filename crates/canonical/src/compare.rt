@@ -5,12 +5,13 @@ use descriptor::header::reserved_at;
 use descriptor::header::size_at;
 use descriptor::inside::inside_of;
 use descriptor::limits::DEPTH_LIMIT;
+use number::endian::read_le;
 use validation::validate::validate;
 ghost use mathlib.Core.Path.{_≡_};
 ghost use Prim.Native.Nat.{_≤_, _<_, _^_};
 ghost use lib.ListN.{length};
 ghost use Rattle.canonical.specs.Equality.{notCompared, bothCompared, comparison};
-ghost use Rattle.canonical.specs.inner.Walk.{Both, RowInside, Accepted, sameRun, sameWithin};
+ghost use Rattle.canonical.specs.inner.Walk.{Both, RowInside, Accepted, SameFront, FirstDifference, Telling, sameRun, sameWithin};
 
 // Whether a and b hold the same bytes from `from` up to `to`.
 fn same_run(a: &[u8], b: &[u8], from: usize, to: usize) -> bool
@@ -56,24 +57,70 @@ fn same_within(a: &[u8], b: &[u8], k: usize, start: usize, stop: usize, levels: 
     same_run(a, b, p, stop)
 }
 
-// Whether a and b, of one length, hold the same bytes. It does not stop at the first that differ, so that the loop is made of vectors.
-fn same_bytes(a: &[u8], b: &[u8]) -> bool
+// How many bytes at the front of a and b, of one length, are the same: those before the first eight that are not.
+fn same_front(a: &[u8], b: &[u8]) -> usize
     requires { ⌜ length (now a) ≡ length (now b) ⌝ }
-    ensures { λ r. ⌜ r ≡ sameRun (now (a .entry)) (now (b .entry)) 0 (length (now (a .entry))) ⌝ }
+    ensures { λ r. ⌜ SameFront (now (a .entry)) (now (b .entry)) r ⌝ }
 {
-    let mut same = true;
     let mut i = 0;
+    while 8 <= a.len() - i {
+        if read_le(a, i, 8) != read_le(b, i, 8) {
+            return i;
+        }
+        i += 8;
+    }
+    i
+}
+
+// The place of the first byte of a and b, of one length, that is not the same; or their length.
+fn first_difference(a: &[u8], b: &[u8]) -> usize
+    requires { ⌜ length (now a) ≡ length (now b) ⌝ }
+    ensures { λ r. ⌜ FirstDifference (now (a .entry)) (now (b .entry)) r ⌝ }
+{
+    let mut i = same_front(a, b);
     while i < a.len() {
         if a[i] != b[i] {
-            same = false;
+            return i;
         }
         i += 1;
     }
-    same
+    i
+}
+
+// Whether the byte at q is the reserved byte of the accepted descriptor a or of one in it. Else bytes that differ there are not equal
+// descriptors. Only the descriptors that q stands in are opened.
+fn is_reserved(a: &[u8], q: usize) -> bool
+    requires { ⌜ Accepted (now a) ⌝ }
+    requires { ⌜ q < length (now a) ⌝ }
+    ensures { λ r. ⌜ Telling (now (a .entry)) q r ⌝ }
+{
+    let mut p = 0;
+    let mut k = 1;
+    while 0 < k {
+        let end = p + size_at(a, p);
+        if end <= q {
+            p = end;
+            k -= 1;
+        } else {
+            if q == reserved_at(p) {
+                return true;
+            }
+            let f = inside_of(a, p);
+            if f.children == 0 {
+                return false;
+            }
+            if q < f.at {
+                return false;
+            }
+            p = f.at;
+            k = f.children;
+        }
+    }
+    false
 }
 
 // Whether b is a descriptor equal to the accepted descriptor a: as long as a, and the same but for the reserved bytes of a. Nothing is
-// asked of b: bytes that are so are a descriptor with a's tree. The same bytes are equal at once.
+// asked of b: bytes that are so are a descriptor with a's tree. The first byte that is not the same decides, unless it is a reserved one.
 pub fn same_as_accepted(a: &[u8], b: &[u8]) -> bool
     requires { ⌜ Accepted (now a) ⌝ }
     ensures { λ r. ⌜ r ≡ comparison (now (a .entry)) (now (b .entry)) .equal ⌝ }
@@ -81,8 +128,12 @@ pub fn same_as_accepted(a: &[u8], b: &[u8]) -> bool
     if a.len() != b.len() {
         return false;
     }
-    if same_bytes(a, b) {
+    let q = first_difference(a, b);
+    if q == a.len() {
         return true;
+    }
+    if !is_reserved(a, q) {
+        return false;
     }
     same_within(a, b, 1, 0, a.len(), DEPTH_LIMIT)
 }

@@ -8,7 +8,7 @@ use Prim.Native.Nat.{ℕ, zero, suc, _+_, _*_, _<_, _≤_}
 use native.Mathlib.Nat.{suc-mul, mul-le-mul-right}
 use native.Mathlib.Omega.{arith}
 use borrow.Author.Tests.{le-leb, lt-ltb}
-use lib.Dec.{leb}
+use lib.Dec.{leb, ltb}
 use lib.ListN.{length, length-append}
 use Rattle.descriptor.specs.Tree.{Fields, empty, items, pairs, text, dimensions, members, Tree, node, Forest, nil, cons}
 use Rattle.descriptor.specs.Limits.{lengthLimit}
@@ -36,8 +36,9 @@ pub record Takes (s : List ℕ) (w k : ℕ) (kept : Type 0) (at : ℕ) (o : Outc
   pub ends : Holds (λ q ts. Ends w k at q ts) o
   pub reads : kept → at + w ≤ length s → Reads o (at + w) k
 
--- a walk from `at` takes so many bytes, a string and so many bytes, and k tokens, where they are all there
+-- a walk from `at` takes so many bytes, a string and so many bytes; and k tokens, where they are all there
 pub record Crosses (o : Order) (s : List ℕ) (before after k : ℕ) (kept : Type 0) (at : ℕ) (w : Outcome (List Token)) : Type 0 where
+  pub stops : Holds (λ q ts. q ≡ at + before + 4 + numberAt o s (at + before) 4 + after) w
   pub crossed : kept → numberAt o s (at + before) 4 < lengthLimit → at + before + 4 + numberAt o s (at + before) 4 + after ≤ length s
       → Reads w (at + before + 4 + numberAt o s (at + before) 4 + after) k
 
@@ -98,6 +99,12 @@ module _ (s : List ℕ) where
         reads-at (reads-follow g first (k (at + w) .reads (kept .1) (omega arith))) (omega arith) refl;
   }
   extends-follow u (Fixed w n j) (Around b a m i) p r at o g h k = record {
+    stops =
+        holds-andThen (h .ends) (λ q ts e.
+        holds-andThen (k q .stops) (λ r us f.
+        let place : q + b ≡ at + (w + b) = omega (arith, e .at) in
+        let same : numberAt u s (q + b) 4 ≡ numberAt u s (at + (w + b)) 4 = ap (λ (p : ℕ). numberAt u s p 4) place in
+        found (omega (arith, place, f))));
     crossed = λ kept low room.
         let place : at + (w + b) ≡ at + w + b = omega arith in
         let same : numberAt u s (at + (w + b)) 4 ≡ numberAt u s (at + w + b) 4 = ap (λ (p : ℕ). numberAt u s p 4) place in
@@ -106,6 +113,10 @@ module _ (s : List ℕ) where
   }
   extends-follow u (Around b a m i) Varies p r at o g h k = tt
   extends-follow u (Around b a m i) (Fixed w n j) p r at o g h k = record {
+    stops =
+        holds-andThen (h .stops) (λ q ts e.
+        holds-andThen (k q .ends) (λ r us f.
+        found (omega (arith, e, f .at))));
     crossed = λ kept low room.
         let first = h .crossed (kept .0) low (omega arith) in
         reads-at (reads-follow g first (k (at + b + 4 + numberAt u s (at + b) 4 + a) .reads (kept .1) (omega arith))) (omega arith) refl;
@@ -116,23 +127,31 @@ module _ (s : List ℕ) where
   text-extends : (o : Order) (kept : Type 0) (at : ℕ) → Crosses o s 0 0 1 kept at (textAt o s at)
   unfolding textAt
   text-extends o kept at = record {
+    stops =
+        holds-require (leb (at + 4) (length s)) 21 at (λ _.
+        holds-require (ltb (numberAt o s at 4) lengthLimit) 22 at (λ _.
+        holds-require (leb (at + 4 + numberAt o s at 4) (length s)) 21 at (λ _.
+        found end)));
     crossed = λ _ low room.
-        let place : at + 0 ≡ at = omega arith in
-        let same : numberAt o s (at + 0) 4 ≡ numberAt o s at 4 = ap (λ (p : ℕ). numberAt o s p 4) place in
-        let end : at + 4 + numberAt o s at 4 ≡ at + 0 + 4 + numberAt o s (at + 0) 4 + 0 = omega arith in
         reads-at
         (record {
           tokens = token string at (at + 4 + numberAt o s at 4) ∷ [];
           eq =
               simp (
-                le-leb (at + 4) (length s) (omega arith),
-                lt-ltb (numberAt o s at 4) lengthLimit (omega arith),
-                le-leb (at + 4 + numberAt o s at 4) (length s) (omega arith),
+                le-leb (at + 4) (length s) (omega (arith, end)),
+                lt-ltb (numberAt o s at 4) lengthLimit (omega (arith, end)),
+                le-leb (at + 4 + numberAt o s at 4) (length s) (omega (arith, end)),
               );
           count = refl;
         })
         end refl;
   }
+    where
+      end : at + 4 + numberAt o s at 4 ≡ at + 0 + 4 + numberAt o s (at + 0) 4 + 0
+      end =
+          let place : at + 0 ≡ at = omega arith in
+          let same : numberAt o s (at + 0) 4 ≡ numberAt o s at 4 = ap (λ (p : ℕ). numberAt o s p 4) place in
+          omega arith
 
   -- a scalar
   scalar-extends : (o : Order) (c : ℕ) (b : Fields) (inside : ℕ → Outcome (List Token)) (at : ℕ) → isScalar b ≡ true

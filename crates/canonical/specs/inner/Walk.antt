@@ -1,9 +1,9 @@
 -- What the walks over an accepted descriptor's structure need, and what they come to.
 use mathlib.Core.Path.{_≡_}
-use mathlib.Core.Bool.{Bool, true}
+use mathlib.Core.Bool.{Bool, true, false}
 use mathlib.Core.List.{List, _++_}
 use Prim.Native.Nat.{ℕ, _+_, _≤_, _<_}
-use lib.ListN.{length, set}
+use lib.ListN.{length, getD, set}
 use lib.Seq.{slice}
 use Rattle.descriptor.specs.Header.{reservedAt, reservedIn}
 use Rattle.descriptor.specs.Tree.{Tree, node, Forest, nil, cons, treeSize, insideAt, forestHeight}
@@ -47,6 +47,20 @@ respelled a b k start stop =
 -- the same bytes in a and b from `start` up to `stop` but for the reserved ones of the k descriptors that stand there
 unfoldable pub sameWithin : List ℕ → List ℕ → ℕ → ℕ → ℕ → Bool
 sameWithin a b k start stop = sameChars (slice start stop b) (respelled a b k start stop)
+
+-- the first n bytes of a and b are the same
+pub record SameFront (a b : List ℕ) (n : ℕ) : Type 0 where
+  pub within : n ≤ length a
+  pub same : slice 0 n a ≡ slice 0 n b
+
+-- and no more of them
+pub record FirstDifference (a b : List ℕ) (n : ℕ) : Type 0 where
+  pub front : SameFront a b n
+  pub differ : n < length a → getD a n 0 ≡ getD b n 0 → ⊥
+
+-- where the answer is no, bytes that are not the same as the descriptor's at q are not its bytes with other reserved ones
+pub record Telling (a : List ℕ) (q : ℕ) (answer : Bool) : Type 0 where
+  pub told : answer ≡ false → (b : List ℕ) → length a ≤ length b → (getD a q 0 ≡ getD b q 0 → ⊥) → sameWithin a b 1 0 (length a) ≡ false
 
 unfoldable mutual
   -- the bytes with zero in the reserved byte of each descriptor of the tree that stands at p

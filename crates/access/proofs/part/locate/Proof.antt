@@ -48,14 +48,14 @@ no-part-requires-2 c κs = search needs
 enum-known-reach-2 : tie.Need-enum-known-reach-2
 enum-known-reach-2 c = search needs
 
-past-requires : tie.Need-past-requires
-past-requires c κs = let a = c .before .before .before .before .before .before .before .before .before .before .args in lying-value (now (a .d)) _ (now (a .s)) _ (found-lies (c .before .before .before .spot-at .ensures) _ _ (c .before .reach2 .given .1))
+past-one-requires : tie.Need-past-one-requires
+past-one-requires c κs = let a = c .before .before .before .before .before .before .before .before .before .before .args in lying-value (now (a .d)) _ (now (a .s)) _ (found-lies (c .before .before .before .spot-at .ensures) _ _ (c .before .reach2 .given .1))
 
 answered-requires-2 : tie.Need-answered-requires-2
 answered-requires-2 c κs = search needs
 
 sub-t15 : tie.Need-sub-t15
-sub-t15 c = let a = c .before .before .before .before .before .before .before .before .before .before .before .before .before .args in lying-bounds (now (a .d)) _ (now (a .s)) _ (found-lies (c .before .before .before .before .before .before .spot-at .ensures) _ _ (c .before .before .before .before .reach2 .given .1)) _ (c .before .before .past .ensures) .after
+sub-t15 c = let a = c .before .before .before .before .before .before .before .before .before .before .before .before .before .args in lying-bounds (now (a .d)) _ (now (a .s)) _ (found-lies (c .before .before .before .before .before .before .spot-at .ensures) _ _ (c .before .before .before .before .reach2 .given .1)) _ (c .before .before .past-one .ensures) .after
 
 returns-2 : tie.Need-returns-2
 returns-2 c =
@@ -75,8 +75,8 @@ returns-3 c =
     let path = now (a .path) in
     let checked = c .before .before .before .before .before .before .before .before .before .check-data in
     let lies = found-lies (c .before .before .before .before .before .before .spot-at .ensures) _ _ (c .before .before .before .before .reach2 .given .1) in
-    let bounds = lying-bounds d _ s _ lies _ (c .before .before .past .ensures) in
-    (part-found d s path (checked .result) (checked .ensures) (c .before .before .before .before .before .before .before .if1 .left) _ (c .before .before .before .before .before .before .spot-at .ensures) _ _ (c .before .before .before .before .reach2 .given .1) _ (c .before .before .past .ensures) _ (c .before .answered2 .ensures), omega (arith, bounds .after, bounds .within))
+    let bounds = lying-bounds d _ s _ lies _ (c .before .before .past-one .ensures) in
+    (part-found d s path (checked .result) (checked .ensures) (c .before .before .before .before .before .before .before .if1 .left) _ (c .before .before .before .before .before .before .spot-at .ensures) _ _ (c .before .before .before .before .reach2 .given .1) _ (c .before .before .past-one .ensures) _ (c .before .answered2 .ensures), omega (arith, bounds .after, bounds .within))
 
 pub locate-spec : {M : Type 1} → statement M
 locate-spec =
@@ -90,7 +90,7 @@ locate-spec =
     answered-requires
     no-part-requires-2
     enum-known-reach-2
-    past-requires
+    past-one-requires
     answered-requires-2
     sub-t15
     returns-2

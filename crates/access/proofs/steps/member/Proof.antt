@@ -27,8 +27,8 @@ loop-holds c =
     let a = begin .args in
     member-begin (a .i) (now (a .d)) (a .start) (a .n) (a .k) (now (a .s)) (a .from .at) (omega (arith, c .if1 .left)) (begin .pre .0)
 
-past-requires : tie.Need-past-requires Inv-loop μ-loop
-past-requires c κs =
+past-member-requires : tie.Need-past-member-requires Inv-loop μ-loop
+past-member-requires c κs =
     let a = c .before .before .before .before .before .args in
     let l = c .before .loop in
     member-value (a .i) (now (a .d)) (a .start) (a .n) (a .k) (now (a .s)) (a .from .at) (l .p) (l .next .at) (l .m) (l .inv)
@@ -56,7 +56,7 @@ loop-again : tie.Need-loop-again Inv-loop μ-loop
 loop-again c =
     let a = c .before .before .before .before .before .before .before .args in
     let l = c .before .before .before .loop in
-    member-again (a .i) (now (a .d)) (a .start) (a .n) (a .k) (now (a .s)) (a .from .at) (l .p) (l .next .at) (l .m) (l .inv) (c .before .before .loop-test .taken) _ (ap (λ (x : ℕ). l .p + x) (c .size-at .ensures .eq)) _ (c .before .past .ensures)
+    member-again (a .i) (now (a .d)) (a .start) (a .n) (a .k) (now (a .s)) (a .from .at) (l .p) (l .next .at) (l .m) (l .inv) (c .before .before .loop-test .taken) _ (ap (λ (x : ℕ). l .p + x) (c .size-at .ensures .eq)) _ (c .before .past-member .ensures)
 
 returns-2 : tie.Need-returns-2 Inv-loop μ-loop
 returns-2 c =
@@ -72,7 +72,7 @@ member-spec =
     μ-loop
     returns
     loop-holds
-    past-requires
+    past-member-requires
     size-at-requires
     add-p
     add-m
