@@ -16,6 +16,7 @@ use Rattle.flattened.specs.inner.Order.{orderOf}
 use Rattle.flattened.proofs.Named.{not-kind}
 use Rattle.flattened.proofs.Cases.{hasInside, row-inside}
 use Rattle.flattened.proofs.Types.{type-deep}
+use Rattle.elements.proofs.Placing.{roomy-fewer}
 use Rattle.elements.proofs.Keeping.{kept-members, kept-other, ahead-inside, definite-inside, RowLoop, row-begin, next-turn, here-definite, next-least, row-next, row-kept}
 use borrow.Fn.Kinds.{In}
 use borrow.Fn.PlainCycle.{Measures, is, falls, and}
@@ -141,7 +142,7 @@ columns-row-columns-of-requires t c κs =
         next-turn (now (a .d)) (a .k) (a .start) (a .left) (a .before) (orderOf (a .o)) (now (a .s)) (a .whole) (a .at) (a .n) (l .p) (l .front) (l .count) (l .i) (l .inv) (c .loop-test .taken) .first,
         (
           (l .inv .ahead, here-definite (now (a .d)) (a .k) (a .start) (a .left) (a .before) (orderOf (a .o)) (now (a .s)) (a .whole) (a .at) (a .n) (l .p) (l .front) (l .count) (l .i) (l .inv) (c .loop-test .taken)),
-          pre .1 .1 .1,
+          roomy-fewer (now (a .s)) (a .whole) (a .at) (l .count) (a .n) (l .inv .fewer) (pre .1 .1 .1),
         ),
       ),
     )
