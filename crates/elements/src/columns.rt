@@ -271,6 +271,9 @@ fn columns_row(
     let mut i = 0;
     while i < k {
         count = columns_of(d, p, front, whole, count, s, at, o, left);
+        if count == 0 {
+            return 0;
+        }
         front = joint(front, extent_of(d, p, left));
         p += size_at(d, p);
         i += 1;

@@ -188,32 +188,13 @@ fn together(a: Passed, b: Passed) -> Passed
     }
 }
 
-// How many elements of the extent x are looked at first: few where any number in them is judged, else all that an array can have.
-fn first_stretch(x: Extent) -> usize
-    ensures { λ r. ⌜ 0 < r ⌝ }
-{
-    match x {
-        Extent::Varies => 4294967296,
-        Extent::Fixed(w, tokens, judged) => {
-            if judged {
-                return 64;
-            }
-            4294967296
-        }
-        Extent::Around(before, after, tokens, judged) => {
-            if judged {
-                return 64;
-            }
-            4294967296
-        }
-    }
-}
-
-// The same by their extent, stretch by stretch: all judged numbers of a stretch are looked at before its first element is passed, and where
-// one is refused, nothing behind its stretch is looked at.
+// The same, stretch by stretch: all judged numbers of a stretch are looked at before its first element is passed, and where one is refused,
+// nothing behind its stretch is looked at.
 fn pass_stretches(
     d: &[u8],
     p: usize,
+    x: Extent,
+    first: usize,
     n: usize,
     s: &[u8],
     at: usize,
@@ -221,12 +202,13 @@ fn pass_stretches(
     left: usize,
 ) -> Passed
     requires { ⌜ TypeStands (now d) p left ⌝ }
+    requires { ⌜ x ≡ extentOf (typeAt (now d) p) ⌝ }
+    requires { ⌜ 0 < first ⌝ }
     requires { ⌜ DataAt (now s) at ⌝ }
     ensures { λ r. ⌜ Passes (orderOf o) (typeAt (now (d .entry)) p) (now (s .entry)) n at r ⌝ }
 {
-    let x = extent_of(d, p, left);
     let mut passed = none_passed();
-    let mut stretch = first_stretch(x);
+    let mut stretch = first;
     while passed.count < n {
         let span = shorter(stretch, n - passed.count);
         let more = pass_extent(d, p, x, span, s, at + passed.bytes, o, left);
@@ -239,8 +221,17 @@ fn pass_stretches(
     passed
 }
 
+// Whether any number in it is judged.
+fn judged_in(x: Extent) -> bool {
+    match x {
+        Extent::Varies => false,
+        Extent::Fixed(w, tokens, judged) => judged,
+        Extent::Around(before, after, tokens, judged) => judged,
+    }
+}
+
 // How many of the first of n elements of the type at p are passed in one step: scalars up to one that is refused, and others by their
-// extent.
+// extent, where none is judged as one stretch of all that an array can have.
 fn pass(d: &[u8], p: usize, n: usize, s: &[u8], at: usize, o: Order, left: usize) -> Passed
     requires { ⌜ TypeStands (now d) p left ⌝ }
     requires { ⌜ DataAt (now s) at ⌝ }
@@ -250,7 +241,11 @@ fn pass(d: &[u8], p: usize, n: usize, s: &[u8], at: usize, o: Order, left: usize
     if scalar != 0 {
         return pass_scalars(d, p, scalar, n, s, at, o);
     }
-    pass_stretches(d, p, n, s, at, o, left)
+    let x = extent_of(d, p, left);
+    if judged_in(x) {
+        return pass_stretches(d, p, x, 64, n, s, at, o, left);
+    }
+    pass_stretches(d, p, x, 4294967296, n, s, at, o, left)
 }
 
 // The front of the array whose elements are of the type at p.

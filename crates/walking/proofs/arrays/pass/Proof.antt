@@ -21,11 +21,23 @@ pass-scalars-requires c κs =
 returns : tie.Need-returns
 returns c = search needs
 
+extent-of-requires : tie.Need-extent-of-requires
+extent-of-requires c κs = search needs
+
+judged-in-requires : tie.Need-judged-in-requires
+judged-in-requires c κs = search needs
+
 pass-stretches-requires : tie.Need-pass-stretches-requires
 pass-stretches-requires c κs = search needs
 
 returns-2 : tie.Need-returns-2
 returns-2 c = search needs
+
+pass-stretches-requires-2 : tie.Need-pass-stretches-requires-2
+pass-stretches-requires-2 c κs = search needs
+
+returns-3 : tie.Need-returns-3
+returns-3 c = search needs
 
 pub pass-spec : {M : Type 1} → statement M
 pass-spec =
@@ -35,5 +47,9 @@ pass-spec =
     width-requires
     pass-scalars-requires
     returns
+    extent-of-requires
+    judged-in-requires
     pass-stretches-requires
-    returns-2)
+    returns-2
+    pass-stretches-requires-2
+    returns-3)
