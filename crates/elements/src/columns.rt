@@ -71,14 +71,7 @@ fn beside(front: Extent, before: usize, after: usize, w: usize) -> bool
 }
 
 // Where it stands, in an element from `start` to `end`: so many bytes past the start, or so many before the end.
-fn place_in(
-    front: Extent,
-    before: usize,
-    after: usize,
-    w: usize,
-    start: usize,
-    end: usize,
-) -> usize
+fn place_in(front: Extent, before: usize, after: usize, w: usize, start: usize, end: usize) -> usize
     requires { ⌜ Beside front before after w ⌝ }
     requires { ⌜ start + before + 4 + after ≤ end ⌝ }
     ensures { λ r. ⌜ StandsIn front before after w start end r ⌝ }

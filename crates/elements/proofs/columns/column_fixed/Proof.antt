@@ -39,9 +39,11 @@ low-requires c κs = search needs
 returns-5 : tie.Need-returns-5
 returns-5 c =
     let a = c .before .before .before .before .before .before .before .before .args in
-    let f = c .before .before .before .before .before .front .given in
-    (c .low .ensures .0, subst (λ (x : Extent). BelowFixed (orderOf (a .o)) (now (a .s)) x (a .step) (a .at) (a .w) (a .limit) (c .low .result)) (sym (f .1))
-    (fixed-below (orderOf (a .o)) (now (a .s)) _ _ _ (a .step) (a .at) (a .w) (a .limit) (c .low .result) (c .low .ensures .1)))
+    let f = c .before .before .before .before .before .front .given in (
+      c .low .ensures .0,
+      subst (λ (x : Extent). BelowFixed (orderOf (a .o)) (now (a .s)) x (a .step) (a .at) (a .w) (a .limit) (c .low .result)) (sym (f .1))
+          (fixed-below (orderOf (a .o)) (now (a .s)) _ _ _ (a .step) (a .at) (a .w) (a .limit) (c .low .result) (c .low .ensures .1)),
+    )
 
 pub column-fixed-spec : {M : Type 1} → statement M
 column-fixed-spec =
