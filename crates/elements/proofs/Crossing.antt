@@ -1,28 +1,15 @@
--- Past an extent that does not vary, and past bytes, a string and bytes: where the cursor arrives. Rests on the cursor's steps.
+-- Past bytes, a string and bytes: where the cursor arrives. Rests on the cursor's steps.
 use mathlib.Core.Path.{_≡_, ap}
 use mathlib.Core.List.{List}
 use Prim.Native.Nat.{ℕ, _+_}
 use native.Mathlib.Omega.{arith}
 use Rattle.flattened.specs.Order.{Order, numberAt}
 use Rattle.flattened.specs.inner.Cursor.{skipped}
-use Rattle.flattened.specs.inner.Columns.{Definite, beyond, ArrivesAt, Passing, Across}
+use Rattle.flattened.specs.inner.Columns.{ArrivesAt, Across}
 use Rattle.flattened.specs.declared.cursor.Cursor.{Cursor}
 use Rattle.flattened.specs.declared.cursor.Skip.{Skip}
 use Rattle.flattened.specs.declared.cursor.Skip.the-variants.{To, Cut}
-use Rattle.flattened.specs.declared.extent.Extent.{Extent}
 use Rattle.flattened.proofs.Steps.{Skipped, skip-to, WordRead}
-
--- past so many bytes
-pub arrives-skip : (s : List ℕ) (at n : ℕ) (r : Skip) → r ≡ skipped s at n → ArrivesAt s (at + n) r
-unfolding ArrivesAt
-arrives-skip s at n Cut e = tt
-arrives-skip s at n (To c) e = let to = skip-to s at n c e in (to .place, omega (arith, to .place, to .fits))
-
--- past an extent that does not vary
-pub arrives-passing : (o : Order) (s : List ℕ) (x : Extent) (at : ℕ) → Definite x → (r : Skip) → ArrivesAt s (beyond o s x at) r → Passing o s x at r
-unfolding ArrivesAt Passing
-arrives-passing o s x at d Cut h = tt
-arrives-passing o s x at d (To c) h = (d, h .0, h .1)
 
 -- the bytes before a string, its length word, its characters and the bytes after it, each from where the one before it ended
 pub across-end : (o : Order) (s : List ℕ) (before after at v : ℕ) (text characters end : Cursor) → Skipped s at before text

@@ -1,5 +1,5 @@
 -- Columns of judged numbers: one extent after another gives the place past both, nothing judged means that every number is kept, and what
--- the loops over the elements and over the types of a row keep. Rests on the laws of extents and on what types are made of.
+-- the loop over the types of a row keeps. Rests on the laws of extents and on what types are made of.
 use mathlib.Core.Path.{_≡_, refl, sym, ap, subst, _∙_}
 use mathlib.Core.Bool.{Bool, true, false, _||_}
 use mathlib.Core.List.{List}
@@ -21,7 +21,7 @@ use Rattle.descriptor.proofs.Steps.{impossible}
 use Rattle.flattened.specs.Order.{Order, numberAt}
 use Rattle.flattened.specs.inner.Types.{typeAt, typesAt, RowStands, fieldsKind}
 use Rattle.flattened.specs.inner.Extent.{ruleOf, typeRule, judges, keeps, joint, least, tokensIn, extentFields, extentOf, extentAll}
-use Rattle.flattened.specs.inner.Columns.{Definite, judgedIn, Ahead, beyond, Passing, Follows, placeOf, KeptFields, Kept, KeptAll, EachBelow, EachKept, EachKeptAll, EachKeptHere}
+use Rattle.flattened.specs.inner.Columns.{Definite, judgedIn, Ahead, beyond, placeOf, KeptFields, Kept, KeptAll, EachBelow, EachKept, EachKeptAll, EachKeptHere}
 use Rattle.flattened.specs.declared.cursor.Cursor.{Cursor}
 use Rattle.flattened.specs.declared.cursor.Skip.the-variants.{To}
 use Rattle.flattened.specs.declared.extent.Rule.{Rule}
@@ -106,69 +106,6 @@ ahead-joint (Fixed w k j) (Around u v n i) p size h b t = record { bytes = omega
 ahead-joint (Around u v n i) Varies p size h b t = record { bytes = omega arith; tokens = omega arith }
 ahead-joint (Around u v n i) (Fixed w k j) p size h b t = record { bytes = omega (arith, h .bytes); tokens = omega (arith, h .tokens) }
 ahead-joint (Around u v n i) (Around c e m j) p size h b t = record { bytes = omega arith; tokens = omega arith }
-
--- what follows so many bytes, or the front of a string's bytes
-pub follows-fixed : (w f k : ℕ) (j : Bool) → f ≤ w → Follows (Fixed f k j) (Fixed (w - f) 0 false) (Fixed w 0 false)
-unfolding beyond
-follows-fixed w f k j h = record { same = λ o s _ at. omega arith }
-
-pub follows-before : (b a f k : ℕ) (j : Bool) → f ≤ b → Follows (Fixed f k j) (Around (b - f) a 0 false) (Around b a 0 false)
-unfolding beyond
-follows-before b a f k j h = record {
-  same = λ o s _ at.
-      let place : at + b ≡ at + f + (b - f) = omega arith in
-      let number : numberAt o s (at + b) 4 ≡ numberAt o s (at + f + (b - f)) 4 = ap (λ (p : ℕ). numberAt o s p 4) place in
-      omega arith;
-}
-
-pub follows-after : (b a e f k : ℕ) (j : Bool) → b ≡ e → f ≤ a → Follows (Around e f k j) (Fixed (a - f) 0 false) (Around b a 0 false)
-unfolding beyond
-follows-after b a e f k j same h = record {
-  same = λ o s _ at.
-      let number : numberAt o s (at + b) 4 ≡ numberAt o s (at + e) 4 = ap (λ (p : ℕ). numberAt o s (at + p) 4) same in
-      omega arith;
-}
-
--- nothing is said of what varies
-pub follows-none : (front whole : Extent) → Follows front Varies whole
-unfolding Definite
-follows-none front whole = record { same = λ o s h at. absurd h }
-
-module _ (o : Order) (s : List ℕ) (front rest : Extent) (at w limit n : ℕ) where
-  -- so many elements have been looked at, up to a place
-  pub record ColumnLoop (place count : ℕ) : Type 0 where
-    pub most : count ≤ n
-    pub inside : place ≤ length s
-    pub reached : (whole : Extent) → Follows front rest whole → place ≡ placeOf o s whole at count
-    pub low : (whole : Extent) → Follows front rest whole → EachBelow o s front whole at w limit count
-
-  pub column-begin : at ≤ length s → ColumnLoop at 0
-  unfolding placeOf
-  column-begin h = record { most = omega arith; inside = h; reached = λ whole f. refl; low = λ whole f i l. absurd (omega arith) }
-
-  -- one element more: past `front` to the number, and past the rest to the end
-  pub column-next : (place count : ℕ) → ColumnLoop place count → count < n → (a c : Cursor) → Passing o s front place (To a)
-      → numberAt o s (a .at) w < limit → Passing o s rest (a .at) (To c) → ColumnLoop (c .at) (count + 1)
-  unfolding Passing placeOf
-  column-next place count loop more a c g low h = record {
-    most = omega arith;
-    inside = h .2;
-    reached = λ whole f.
-        h .1
-        ∙ ap (beyond o s rest) (g .1)
-        ∙ sym (f .same o s (h .0) place)
-        ∙ ap (beyond o s whole) (loop .reached whole f)
-        ∙ ap (placeOf o s whole at) (sym (add-one count));
-    low = λ whole f i l. go whole f i l (decLt i count);
-  }
-    where
-      go : (whole : Extent) → Follows front rest whole → (i : ℕ) → i < count + 1 → Dec (i < count)
-          → numberAt o s (beyond o s front (placeOf o s whole at i)) w < limit
-      go whole f i l (yes before) = loop .low whole f i before
-      go whole f i l (no other) =
-          let last : i ≡ count = omega arith in
-          let there : place ≡ placeOf o s whole at i = loop .reached whole f ∙ ap (placeOf o s whole at) (sym last) in
-          subst (λ (q : ℕ). numberAt o s q w < limit) (g .1 ∙ ap (beyond o s front) there) low
 
 module _ (o : Order) (s : List ℕ) (at : ℕ) where
   -- a scalar whose number keeps its rule, a cluster whose members do, and any other type

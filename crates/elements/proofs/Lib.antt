@@ -1,3 +1,4 @@
 pub mod Maxima
+pub mod Placing
 pub mod Keeping
 pub mod Crossing

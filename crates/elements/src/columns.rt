@@ -1,4 +1,5 @@
 // The judged numbers of an array's elements, column by column: those that stand at one place in every element are looked at in one loop.
+use super::largest::low;
 use descriptor::codes::Kind;
 use descriptor::codes::kind_of;
 use descriptor::header::code_at;
@@ -16,18 +17,17 @@ use flattened::extent::rule_of;
 use flattened::order::Order;
 use flattened::order::narrow_number;
 ghost use mathlib.Core.Path.{_≡_};
-ghost use mathlib.Core.Bool.{true, false};
-ghost use Prim.Native.Nat.{_≤_, _<_};
+ghost use mathlib.Core.Bool.{true};
+ghost use Prim.Native.Nat.{_+_, _*_, _≤_, _<_};
 ghost use lib.ListN.{length};
 ghost use Rattle.descriptor.specs.Header.{codeIn};
 ghost use Rattle.descriptor.specs.Width.{widthOf};
 ghost use Rattle.descriptor.specs.inner.Standing.{Stands};
-ghost use Rattle.flattened.specs.Order.{numberAt};
 ghost use Rattle.flattened.specs.inner.Order.{orderOf, Narrow};
 ghost use Rattle.flattened.specs.inner.Types.{typeAt, typesAt, TypeStands, RowStands};
 ghost use Rattle.flattened.specs.inner.Extent.{joint, extentOf, extentAll};
-ghost use Rattle.flattened.specs.inner.Columns.{judgedIn, Definite, Ahead, Across, Passing, Follows, EachBelow, EachKept, EachKeptAll, EachKeptHere};
-ghost use Rattle.flattened.specs.declared.extent.Extent.the-variants.{Fixed, Around};
+ghost use Rattle.flattened.specs.inner.Columns.{judgedIn, Definite, Ahead, Across, EachBelow, EachKept, EachKeptAll, EachKeptHere};
+ghost use Rattle.elements.specs.inner.Placing.{Roomy, Beside, StandsIn, BelowFixed, BelowAround};
 
 // Past `before` bytes, a string and `after` bytes.
 pub fn across(before: usize, after: usize, s: &[u8], from: Cursor, o: Order) -> Skip
@@ -46,78 +46,112 @@ pub fn across(before: usize, after: usize, s: &[u8], from: Cursor, o: Order) -> 
     end.skip(s, after)
 }
 
-// Past a value of the extent x.
-fn beyond(x: Extent, s: &[u8], from: Cursor, o: Order) -> Skip
-    requires { ⌜ from .at ≤ length (now s) ⌝ }
-    ensures { λ r. ⌜ Passing (orderOf o) (now (s .entry)) x (from .at) r ⌝ }
-{
-    match x {
-        Extent::Varies => Skip::Cut,
-        Extent::Fixed(w, tokens, judged) => from.skip(s, w),
-        Extent::Around(before, after, tokens, judged) => across(before, after, s, from, o),
-    }
-}
-
-// What follows `front` in w bytes; varies where `front` is no front of them.
-fn rest_fixed(w: usize, front: Extent) -> Extent
-    ensures { λ r. ⌜ Follows front r (Fixed w 0 false) ⌝ }
-{
-    if let Extent::Fixed(f, tokens, judged) = front {
-        if f <= w {
-            return Extent::Fixed(w - f, 0, false);
-        }
-    }
-    Extent::Varies
-}
-
-// What follows `front` in the bytes before and after a string.
-fn rest_around(before: usize, after: usize, front: Extent) -> Extent
-    ensures { λ r. ⌜ Follows front r (Around before after 0 false) ⌝ }
+// Whether a number of w bytes past `front` stands beside a string: in the bytes before it, or in those after it.
+fn beside(front: Extent, before: usize, after: usize, w: usize) -> bool
+    ensures { λ r. ⌜ (r ≡ true → Beside front before after w) ⌝ }
 {
     match front {
-        Extent::Varies => Extent::Varies,
+        Extent::Varies => false,
         Extent::Fixed(f, tokens, judged) => {
-            if before < f {
-                return Extent::Varies;
+            if before < w {
+                return false;
             }
-            Extent::Around(before - f, after, 0, false)
+            f <= before - w
         }
         Extent::Around(b, a, tokens, judged) => {
-            if before != b {
-                return Extent::Varies;
+            if b != before {
+                return false;
             }
-            if after < a {
-                return Extent::Varies;
+            if after < w {
+                return false;
             }
-            Extent::Fixed(after - a, 0, false)
+            a <= after - w
         }
     }
 }
 
-// What follows `front` in `whole`.
-fn rest_of(whole: Extent, front: Extent) -> Extent
-    ensures { λ r. ⌜ Follows front r whole ⌝ }
+// Where it stands, in an element from `start` to `end`: so many bytes past the start, or so many before the end.
+fn place_in(front: Extent, before: usize, after: usize, w: usize, start: usize, end: usize) -> usize
+    requires { ⌜ Beside front before after w ⌝ }
+    requires { ⌜ start + before + 4 + after ≤ end ⌝ }
+    ensures { λ r. ⌜ StandsIn front before after w start end r ⌝ }
 {
-    match whole {
-        Extent::Varies => Extent::Varies,
-        Extent::Fixed(w, tokens, judged) => rest_fixed(w, front),
-        Extent::Around(before, after, tokens, judged) => rest_around(before, after, front),
+    match front {
+        Extent::Varies => start,
+        Extent::Fixed(f, tokens, judged) => start + f,
+        Extent::Around(b, a, tokens, judged) => end - (after - a),
     }
 }
 
-// Whether the number of w bytes here is there, and below a limit.
-fn below(w: usize, limit: usize, s: &[u8], from: Cursor, o: Order) -> bool
+// How many of the first of n elements, of `before` bytes, a string and `after` bytes each, have a number of w bytes past `front` that is
+// below a limit.
+fn column_around(
+    front: Extent,
+    before: usize,
+    after: usize,
+    w: usize,
+    limit: usize,
+    n: usize,
+    s: &[u8],
+    at: usize,
+    o: Order,
+) -> usize
     requires { ⌜ Narrow w ⌝ }
-    requires { ⌜ from .at ≤ length (now s) ⌝ }
-    ensures { λ r. ⌜ (r ≡ true → numberAt (orderOf o) (now (s .entry)) (from .at) w < limit) ⌝ }
+    requires { ⌜ at ≤ length (now s) ⌝ }
+    ensures { λ r. ⌜ (r ≤ n) × BelowAround (orderOf o) (now (s .entry)) front before after at w limit r ⌝ }
 {
-    if s.len() - from.at < w {
-        return false;
+    if !beside(front, before, after, w) {
+        return 0;
     }
-    narrow_number(s, from.at, w, o) < limit
+    let mut next = Cursor { at };
+    let mut count = 0;
+    while count < n {
+        let element = across(before, after, s, next, o);
+        let Skip::To(end) = element else {
+            return count;
+        };
+        let place = place_in(front, before, after, w, next.at, end.at);
+        if limit <= narrow_number(s, place, w, o) {
+            return count;
+        }
+        next = end;
+        count += 1;
+    }
+    count
 }
 
-// How many of the first of n elements of the extent `whole` have a number of w bytes past `front` that is below a limit.
+// The same, of elements of `step` bytes each, which fit.
+fn column_fixed(
+    front: Extent,
+    step: usize,
+    w: usize,
+    limit: usize,
+    n: usize,
+    s: &[u8],
+    at: usize,
+    o: Order,
+) -> usize
+    requires { ⌜ Narrow w ⌝ }
+    requires { ⌜ at + n * step ≤ length (now s) ⌝ }
+    ensures { λ r. ⌜ (r ≤ n) × BelowFixed (orderOf o) (now (s .entry)) front step at w limit r ⌝ }
+{
+    let Extent::Fixed(f, tokens, judged) = front else {
+        return 0;
+    };
+    if n == 0 {
+        return 0;
+    }
+    if step < w {
+        return 0;
+    }
+    if step - w < f {
+        return 0;
+    }
+    low(limit, s, at + f, w, step, n, o)
+}
+
+// How many of the first of n elements of the extent `whole`, which fit where it is fixed, have a number of w bytes past `front` that is
+// below a limit.
 fn column(
     front: Extent,
     whole: Extent,
@@ -129,28 +163,16 @@ fn column(
     o: Order,
 ) -> usize
     requires { ⌜ Narrow w ⌝ }
-    requires { ⌜ at ≤ length (now s) ⌝ }
+    requires { ⌜ Roomy (now s) whole at n ⌝ }
     ensures { λ r. ⌜ (r ≤ n) × EachBelow (orderOf o) (now (s .entry)) front whole at w limit r ⌝ }
 {
-    let rest = rest_of(whole, front);
-    let mut next = Cursor { at };
-    let mut count = 0;
-    while count < n {
-        let number = beyond(front, s, next, o);
-        let Skip::To(place) = number else {
-            return count;
-        };
-        if !below(w, limit, s, place, o) {
-            return count;
+    match whole {
+        Extent::Varies => 0,
+        Extent::Fixed(step, tokens, judged) => column_fixed(front, step, w, limit, n, s, at, o),
+        Extent::Around(before, after, tokens, judged) => {
+            column_around(front, before, after, w, limit, n, s, at, o)
         }
-        let element = beyond(rest, s, place, o);
-        let Skip::To(end) = element else {
-            return count;
-        };
-        next = end;
-        count += 1;
     }
-    count
 }
 
 // How many of the first of n elements keep the rule of the scalar past `front`, of w bytes and the type at p.
@@ -167,7 +189,7 @@ fn scalar_column(
 ) -> usize
     requires { ⌜ Stands (now d) p ⌝ }
     requires { ⌜ (w ≡ widthOf (codeIn (now d) p)) × (0 < w) ⌝ }
-    requires { ⌜ at ≤ length (now s) ⌝ }
+    requires { ⌜ Roomy (now s) whole at n ⌝ }
     ensures { λ r. ⌜ (r ≤ n) × EachKept (orderOf o) (now (s .entry)) (typeAt (now (d .entry)) p) front whole at r ⌝ }
 {
     let rule = rule_of(d, p);
@@ -191,7 +213,7 @@ fn columns_of(
 ) -> usize
     requires { ⌜ TypeStands (now d) p left ⌝ }
     requires { ⌜ Ahead front p × Definite (joint front (extentOf (typeAt (now d) p))) ⌝ }
-    requires { ⌜ at ≤ length (now s) ⌝ }
+    requires { ⌜ Roomy (now s) whole at n ⌝ }
     ensures { λ r. ⌜ (r ≤ n) × EachKept (orderOf o) (now (s .entry)) (typeAt (now (d .entry)) p) front whole at r ⌝ }
 {
     let code = code_at(d, p);
@@ -233,7 +255,7 @@ fn columns_row(
 ) -> usize
     requires { ⌜ RowStands (now d) k start left ⌝ }
     requires { ⌜ Ahead before start × Definite (joint before (extentAll (typesAt (now d) k start))) ⌝ }
-    requires { ⌜ at ≤ length (now s) ⌝ }
+    requires { ⌜ Roomy (now s) whole at n ⌝ }
     ensures { λ r. ⌜ (r ≤ n) × EachKeptAll (orderOf o) (now (s .entry)) (typesAt (now (d .entry)) k start) before whole at r ⌝ }
 {
     let mut p = start;
@@ -242,6 +264,9 @@ fn columns_row(
     let mut i = 0;
     while i < k {
         count = columns_of(d, p, front, whole, count, s, at, o, left);
+        if count == 0 {
+            return 0;
+        }
         front = joint(front, extent_of(d, p, left));
         p += size_at(d, p);
         i += 1;
@@ -263,7 +288,7 @@ pub fn keeping(
 ) -> usize
     requires { ⌜ TypeStands (now d) p left ⌝ }
     requires { ⌜ (whole ≡ extentOf (typeAt (now d) p)) × Definite whole × (judged ≡ judgedIn whole) ⌝ }
-    requires { ⌜ at ≤ length (now s) ⌝ }
+    requires { ⌜ Roomy (now s) whole at n ⌝ }
     ensures { λ r. ⌜ (r ≤ n) × EachKeptHere (orderOf o) (now (s .entry)) (typeAt (now (d .entry)) p) whole at r ⌝ }
 {
     if judged {

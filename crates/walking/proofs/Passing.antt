@@ -7,6 +7,7 @@ use Prim.Native.Nat.{ℕ, zero, suc, _+_, _-_, _*_, _/_, _<_, _≤_, min}
 use native.Mathlib.Nat.{add-zero, suc-mul, mul-le-mul-right, div-mul-le-self, div-lt-iff-lt-mul}
 use native.Mathlib.Decide.{decLt}
 use native.Mathlib.Omega.{arith}
+use borrow.Author.Tests.{lt-ltb}
 use lib.ListN.{length}
 use Rattle.descriptor.specs.Limits.{dataLimit}
 use Rattle.descriptor.specs.Header.{codeIn}
@@ -15,30 +16,35 @@ use Rattle.descriptor.specs.Tree.{Tree}
 use Rattle.descriptor.specs.Outcome.{Outcome, refused, read, andThen}
 use Rattle.descriptor.specs.inner.Standing.{Stands}
 use Rattle.descriptor.proofs.Outcomes.{Holds, holds-read}
-use Rattle.flattened.specs.Order.{Order}
+use Rattle.flattened.specs.Order.{Order, numberAt}
 use Rattle.flattened.specs.Token.{Token, sizes}
 use Rattle.flattened.specs.Walk.{token, arrayAt, repeat, walk}
 use Rattle.flattened.specs.inner.Cursor.{cursor}
 use Rattle.flattened.specs.inner.Progress.{progress, plus, Reads}
 use Rattle.flattened.specs.inner.Sizes.{elementCap, cappedSizes}
-use Rattle.flattened.specs.inner.Extent.{typeRule, extentOf}
+use Rattle.flattened.specs.inner.Extent.{keeps, typeRule, extentOf}
 use Rattle.flattened.specs.inner.Types.{typeAt, Solid}
-use Rattle.flattened.specs.inner.Columns.{beyond, placeOf, Kept, EachKeptHere}
+use Rattle.flattened.specs.inner.Columns.{Kept, EachKeptHere}
 use Rattle.flattened.specs.inner.Arrays.{elementsAt, EachKeeps}
 use Rattle.walking.specs.inner.Fronts.{Passes, resumed, Resumable, FrontMet}
 use Rattle.walking.specs.declared.arrays.Front.the-variants.{Over, Rest}
 use Rattle.walking.specs.declared.arrays.Passed.{Passed}
 use Rattle.flattened.specs.declared.cursor.Cursor.{Cursor}
 use Rattle.flattened.specs.declared.extent.Extent.the-variants.{Fixed}
+use Rattle.flattened.specs.declared.extent.Rule.{Rule}
+use Rattle.flattened.specs.declared.extent.Rule.the-variants.{Any, Below}
 use Rattle.flattened.specs.declared.progress.Progress.the-variants.{Walked, Refused}
 use Rattle.flattened.specs.declared.sizes.Sizes.the-variants as counted
 use Rattle.flattened.proofs.Capped.{repeat-capped}
 use Rattle.flattened.proofs.Cases.{walk-number}
 use Rattle.flattened.proofs.Extents.{run-reads}
 use Rattle.flattened.proofs.Forward.{walk-forward, repeat-forward, sizes-end}
-use Rattle.elements.proofs.Maxima.{fewer-within, judged-run}
+use Rattle.elements.specs.inner.Largest.{EachLow}
+use Rattle.elements.proofs.Maxima.{fewer-within, more-within}
+use Rattle.elements.proofs.Placing.{fixed-place}
 use Rattle.flattened.proofs.Progresses.{plus-plus, follow-reads}
-use Rattle.flattened.proofs.Repeats.{reads-at, repeat-split}
+use Rattle.flattened.proofs.Repeats.{reads-at, reads-follow, repeat-split, repeat-run}
+use Rattle.flattened.proofs.Judged.{ruledAt, ruled-read}
 
 -- m values of the type t, of w bytes and k tokens each
 abbrev pub passedAs : ℕ → ℕ → ℕ → Passed
@@ -77,12 +83,6 @@ pass-none o t s n at r e = rw e (record {
   reads = record { tokens = []; eq = ap (λ (a : ℕ). read a []) (sym (add-zero at)); count = refl };
 })
 
--- values of a fixed extent stand w bytes apart
-fixed-place : (o : Order) (s : List ℕ) (w k : ℕ) (j : Bool) (at i : ℕ) → placeOf o s (Fixed w k j) at i ≡ at + i * w
-unfolding placeOf beyond
-fixed-place o s w k j at zero = omega arith
-fixed-place o s w k j at (suc i) = omega (arith, fixed-place o s w k j at i, suc-mul i w)
-
 -- those that keep their rules
 pub pass-plain : (o : Order) (t : Tree) (s : List ℕ) (w k : ℕ) (j : Bool) (m n at : ℕ) → Fixed w k j ≡ extentOf t → m ≤ n → at + m * w ≤ length s
     → EachKeptHere o s t (Fixed w k j) at n → Passes o t s n at (passedAs m w k)
@@ -94,6 +94,47 @@ pass-plain o t s w k j m n at known most room kept = record {
 -- the first of more
 pub pass-more : (o : Order) (t : Tree) (s : List ℕ) (m n at : ℕ) (r : Passed) → m ≤ n → Passes o t s m at r → Passes o t s n at r
 pass-more o t s m n at r h passes = record { most = omega (arith, passes .most); reads = passes .reads }
+
+-- n scalars whose numbers each keep their rule, one step for all; each is walked by f, under the rule
+judged-run : (o : Order) (s : List ℕ) (c : ℕ) (r : Rule) (f : ℕ → Outcome (List Token)) → ((a : ℕ) → f a ≡ ruledAt o c s a r)
+    → (n at : ℕ) → at + n * widthOf c ≤ length s → EachKeeps r o s (widthOf c) at n → Reads (repeat f n at) (at + n * widthOf c) (n * 1)
+judged-run o s c r f ruled n at room kept =
+    repeat-run f (widthOf c) 1 n at (λ i h.
+    let place : ℕ = at + i * widthOf c in
+    let end : place + widthOf c ≤ length s = omega (arith, more-within (widthOf c) at (length s) i 1 n (omega arith) room) in
+    record { tokens = _; eq = ruled place ∙ ruled-read o c s place r end (kept i h); count = refl })
+
+-- numbers side by side that keep any rule, or are each below its limit
+pub any-kept : (r : Rule) (o : Order) (s : List ℕ) (w at n : ℕ) → Any ≡ r → EachKeeps r o s w at n
+unfolding keeps
+any-kept r o s w at n e i h = sym (ap (λ (x : Rule). keeps x (numberAt o s (at + i * w) w)) e)
+
+pub low-kept : (r : Rule) (o : Order) (s : List ℕ) (w at n limit number : ℕ) → Below limit number ≡ r → EachLow limit o s w w at n → EachKeeps r o s w at n
+unfolding keeps
+low-kept r o s w at n limit number e low i h = sym (ap (λ (x : Rule). keeps x (numberAt o s (at + i * w) w)) e) ∙ lt-ltb _ limit (low i h)
+
+-- the bytes and tokens of elements that are passed
+pub record PassedWithin (s : List ℕ) (at : ℕ) (r : Passed) : Type 0 where
+  pub tokens : r .tokens ≤ r .bytes
+  pub inside : at + r .bytes ≤ length s
+
+pub passed-within : (o : Order) (t : Tree) (s : List ℕ) (n at : ℕ) (r : Passed) → Solid t → at ≤ length s → Passes o t s n at r → PassedWithin s at r
+passed-within o t s n at r solid h passes =
+    let reads = passes .reads in
+    let ends = holds-read (reads .eq) (repeat-forward s 1 (λ a. walk o t s a) (λ a l. walk-forward s t solid o a l) (r .count) at h) in
+    record { tokens = omega (arith, ends .tokens, reads .count); inside = ends .inside }
+
+-- some, and then more
+pub pass-next : (o : Order) (t : Tree) (s : List ℕ) (n m at : ℕ) (a b r : Passed) → Passes o t s n at a → a .count + m ≤ n
+    → Passes o t s m (at + a .bytes) b → r ≡ record { count = a .count + b .count; bytes = a .bytes + b .bytes; tokens = a .tokens + b .tokens }
+    → Passes o t s n at r
+pass-next o t s n m at a b r first room next e =
+    let place : at + a .bytes + b .bytes ≡ at + (a .bytes + b .bytes) = omega arith in
+    let both = reads-follow (λ q. repeat (λ u. walk o t s u) (b .count) q) (first .reads) (next .reads) in
+    rw e (record {
+      most = omega (arith, next .most);
+      reads = reads-at (rw (repeat-split (λ u. walk o t s u) (a .count) (b .count) at) both) place refl;
+    })
 
 -- scalars that each keep their rule
 pub pass-kept : (d : List ℕ) (p : ℕ) → Stands d p → (w : ℕ) → w ≡ widthOf (codeIn d p) → 0 < w → (o : Order) (s : List ℕ) (m n at : ℕ) → m ≤ n
@@ -162,15 +203,8 @@ module _ (o : Order) (k : ℕ) (t : Tree) (s : List ℕ) (at : ℕ) where
 
     module _ (r : Passed) (passes : Passes o t s n (c .at) r) where
       -- the bytes and tokens of the elements passed
-      pub record Within : Type 0 where
-        pub tokens : r .tokens ≤ r .bytes
-        pub inside : c .at + r .bytes ≤ length s
-
-      pub front-within : Within
-      front-within =
-          let reads = passes .reads in
-          let ends = holds-read (reads .eq) (repeat-forward s 1 element (λ a l. walk-forward s t solid o a l) (r .count) (c .at) (front-sized .inside)) in
-          record { tokens = omega (arith, ends .tokens, reads .count); inside = ends .inside }
+      pub front-within : PassedWithin s (c .at) r
+      front-within = passed-within o t s n (c .at) r solid (front-sized .inside) passes
 
       -- the walk from the first element that was not passed
       rest : progress (repeat element n (c .at)) ≡ plus (r .tokens) (progress (repeat element (n - r .count) (c .at + r .bytes)))

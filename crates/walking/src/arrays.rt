@@ -3,7 +3,9 @@ use descriptor::header::code_at;
 use descriptor::width::width;
 use elements::columns::across;
 use elements::columns::keeping;
-use elements::largest::largest;
+use elements::largest::longer;
+use elements::largest::low;
+use elements::largest::shorter;
 use flattened::cursor::Cursor;
 use flattened::cursor::Skip;
 use flattened::extent::Extent;
@@ -22,10 +24,9 @@ ghost use Rattle.descriptor.specs.Header.{codeIn};
 ghost use Rattle.descriptor.specs.Width.{widthOf};
 ghost use Rattle.descriptor.specs.inner.Standing.{Stands};
 ghost use Rattle.flattened.specs.inner.Order.{orderOf};
-ghost use Rattle.flattened.specs.inner.Extent.{typeRule};
+ghost use Rattle.flattened.specs.inner.Extent.{typeRule, extentOf};
 ghost use Rattle.flattened.specs.inner.Types.{typeAt, TypeStands, DataAt};
-ghost use Rattle.elements.specs.inner.Largest.{largest};
-ghost use Rattle.flattened.specs.inner.Arrays.{allKeep, EachKeeps};
+ghost use Rattle.flattened.specs.inner.Arrays.{EachKeeps};
 ghost use Rattle.walking.specs.inner.Fronts.{Passes, PassesEither, PassesAround, FrontMet};
 
 // How many elements are passed in one step, and their bytes and tokens.
@@ -55,86 +56,18 @@ fn fitting(n: usize, w: usize, room: usize) -> usize
     room / w
 }
 
-// Whether n scalars of the type at p, of w bytes each, all keep its rule, by the largest of their numbers.
-fn all_keep(d: &[u8], p: usize, w: usize, n: usize, s: &[u8], at: usize, o: Order) -> bool
-    requires { ⌜ Stands (now d) p ⌝ }
-    requires { ⌜ w ≡ widthOf (codeIn (now d) p) ⌝ }
-    requires { ⌜ at + n * w ≤ length (now s) ⌝ }
-    ensures { λ r. ⌜ r ≡ allKeep (typeRule (typeAt (now (d .entry)) p)) (largest (orderOf o) (now (s .entry)) w at n) ⌝ }
-{
-    let rule = rule_of(d, p);
-    match rule {
-        Rule::Any => true,
-        Rule::Below(limit, number) => largest(s, at, w, n, o) < limit,
-    }
-}
-
-// How many of the first of n scalars of the type at p, of w bytes each, keep its rule: all of them, or those before one that does not,
-// which is found by halves.
-fn kept_within(d: &[u8], p: usize, w: usize, n: usize, s: &[u8], at: usize, o: Order) -> usize
-    requires { ⌜ Stands (now d) p ⌝ }
-    requires { ⌜ w ≡ widthOf (codeIn (now d) p) ⌝ }
-    requires { ⌜ at + n * w ≤ length (now s) ⌝ }
-    ensures { λ r. ⌜ (r ≤ n) × EachKeeps (typeRule (typeAt (now (d .entry)) p)) (orderOf o) (now (s .entry)) w at r ⌝ }
-{
-    if all_keep(d, p, w, n, s, at, o) {
-        return n;
-    }
-    let mut count = 0;
-    let mut span = n;
-    while 1 < span {
-        let half = span / 2;
-        if all_keep(d, p, w, half, s, at + count * w, o) {
-            count += half;
-            span -= half;
-        } else {
-            span = half;
-        }
-    }
-    count
-}
-
-// The smaller of two lengths.
-fn shorter(a: usize, b: usize) -> usize
-    requires { ⌜ (0 < a) × (0 < b) ⌝ }
-    ensures { λ r. ⌜ (0 < r) × (r ≤ b) ⌝ }
-{
-    if a < b {
-        return a;
-    }
-    b
-}
-
-// The stretch after one that all keep the rule: twice as long, up to 8,192.
-fn longer(stretch: usize) -> usize
-    requires { ⌜ 0 < stretch ⌝ }
-    ensures { λ r. ⌜ 0 < r ⌝ }
-{
-    if stretch < 8192 {
-        return stretch * 2;
-    }
-    stretch
-}
-
-// The same, stretch by stretch: where one is refused, no more than its stretch is looked at twice, and nothing behind it.
+// How many of the first of n scalars of the type at p, of w bytes each, keep its rule.
 fn kept(d: &[u8], p: usize, w: usize, n: usize, s: &[u8], at: usize, o: Order) -> usize
     requires { ⌜ Stands (now d) p ⌝ }
     requires { ⌜ w ≡ widthOf (codeIn (now d) p) ⌝ }
     requires { ⌜ at + n * w ≤ length (now s) ⌝ }
     ensures { λ r. ⌜ (r ≤ n) × EachKeeps (typeRule (typeAt (now (d .entry)) p)) (orderOf o) (now (s .entry)) w at r ⌝ }
 {
-    let mut count = 0;
-    let mut stretch = 512;
-    while count < n {
-        let span = shorter(stretch, n - count);
-        let more = kept_within(d, p, w, span, s, at + count * w, o);
-        count += more;
-        if more < span {
-            return count;
-        }
-        stretch = longer(stretch);
+    let rule = rule_of(d, p);
+    match rule {
+        Rule::Any => n,
+        Rule::Below(limit, number) => low(limit, s, at, w, w, n, o),
     }
-    count
 }
 
 fn none_passed() -> Passed
@@ -176,14 +109,13 @@ fn many(count: usize, bytes: usize, tokens: usize) -> Passed
     }
 }
 
-// How many of the first of n values of w bytes and `tokens` tokens each are passed in one step: those that fit.
+// n values of w bytes and `tokens` tokens each are passed in one step: they fit.
 fn pass_fixed(w: usize, tokens: usize, n: usize, s: &[u8], at: usize) -> Passed
-    requires { ⌜ (0 < w) × (w < 2 ^ 40) × (tokens ≤ w) ⌝ }
-    requires { ⌜ DataAt (now s) at ⌝ }
+    requires { ⌜ tokens ≤ w ⌝ }
+    requires { ⌜ at + n * w ≤ length (now s) ⌝ }
     ensures { λ r. ⌜ PassesEither w tokens (now (s .entry)) n at r ⌝ }
 {
-    let count = fitting(n, w, s.len() - at);
-    many(count, count * w, tokens)
+    many(n, n * w, tokens)
 }
 
 // How many of the first of n values are passed, each of `before` bytes, a string and `after` bytes, with `tokens` tokens in all: those
@@ -214,8 +146,92 @@ fn pass_around(
     many(count, next.at - at, tokens)
 }
 
+// How many of the first of n elements of the type at p, of the extent x, are passed in one step: those that fit, up to one that is refused.
+fn pass_extent(
+    d: &[u8],
+    p: usize,
+    x: Extent,
+    n: usize,
+    s: &[u8],
+    at: usize,
+    o: Order,
+    left: usize,
+) -> Passed
+    requires { ⌜ TypeStands (now d) p left ⌝ }
+    requires { ⌜ x ≡ extentOf (typeAt (now d) p) ⌝ }
+    requires { ⌜ DataAt (now s) at ⌝ }
+    ensures { λ r. ⌜ Passes (orderOf o) (typeAt (now (d .entry)) p) (now (s .entry)) n at r ⌝ }
+{
+    match x {
+        Extent::Varies => none_passed(),
+        Extent::Fixed(w, tokens, judged) => {
+            let fit = fitting(n, w, s.len() - at);
+            let most = keeping(d, p, x, judged, fit, s, at, o, left);
+            pass_fixed(w, tokens, most, s, at)
+        }
+        Extent::Around(before, after, tokens, judged) => {
+            let most = keeping(d, p, x, judged, n, s, at, o, left);
+            pass_around(before, after, tokens, most, s, at, o)
+        }
+    }
+}
+
+// Elements that are passed after others.
+fn together(a: Passed, b: Passed) -> Passed
+    requires { ⌜ (a .count + b .count < 2 ^ 64) × (a .bytes + b .bytes < 2 ^ 64) × (a .tokens + b .tokens < 2 ^ 64) ⌝ }
+    ensures { λ r. ⌜ r ≡ record { count = a .count + b .count; bytes = a .bytes + b .bytes; tokens = a .tokens + b .tokens } ⌝ }
+{
+    Passed {
+        count: a.count + b.count,
+        bytes: a.bytes + b.bytes,
+        tokens: a.tokens + b.tokens,
+    }
+}
+
+// The same, stretch by stretch: all judged numbers of a stretch are looked at before its first element is passed, and where one is refused,
+// nothing behind its stretch is looked at.
+fn pass_stretches(
+    d: &[u8],
+    p: usize,
+    x: Extent,
+    first: usize,
+    n: usize,
+    s: &[u8],
+    at: usize,
+    o: Order,
+    left: usize,
+) -> Passed
+    requires { ⌜ TypeStands (now d) p left ⌝ }
+    requires { ⌜ x ≡ extentOf (typeAt (now d) p) ⌝ }
+    requires { ⌜ 0 < first ⌝ }
+    requires { ⌜ DataAt (now s) at ⌝ }
+    ensures { λ r. ⌜ Passes (orderOf o) (typeAt (now (d .entry)) p) (now (s .entry)) n at r ⌝ }
+{
+    let mut passed = none_passed();
+    let mut stretch = first;
+    while passed.count < n {
+        let span = shorter(stretch, n - passed.count);
+        let more = pass_extent(d, p, x, span, s, at + passed.bytes, o, left);
+        passed = together(passed, more);
+        if more.count < span {
+            return passed;
+        }
+        stretch = longer(stretch);
+    }
+    passed
+}
+
+// Whether any number in it is judged.
+fn judged_in(x: Extent) -> bool {
+    match x {
+        Extent::Varies => false,
+        Extent::Fixed(w, tokens, judged) => judged,
+        Extent::Around(before, after, tokens, judged) => judged,
+    }
+}
+
 // How many of the first of n elements of the type at p are passed in one step: scalars up to one that is refused, and others by their
-// extent.
+// extent, where none is judged as one stretch of all that an array can have.
 fn pass(d: &[u8], p: usize, n: usize, s: &[u8], at: usize, o: Order, left: usize) -> Passed
     requires { ⌜ TypeStands (now d) p left ⌝ }
     requires { ⌜ DataAt (now s) at ⌝ }
@@ -225,18 +241,11 @@ fn pass(d: &[u8], p: usize, n: usize, s: &[u8], at: usize, o: Order, left: usize
     if scalar != 0 {
         return pass_scalars(d, p, scalar, n, s, at, o);
     }
-    let extent = extent_of(d, p, left);
-    match extent {
-        Extent::Varies => none_passed(),
-        Extent::Fixed(w, tokens, judged) => {
-            let most = keeping(d, p, extent, judged, n, s, at, o, left);
-            pass_fixed(w, tokens, most, s, at)
-        }
-        Extent::Around(before, after, tokens, judged) => {
-            let most = keeping(d, p, extent, judged, n, s, at, o, left);
-            pass_around(before, after, tokens, most, s, at, o)
-        }
+    let x = extent_of(d, p, left);
+    if judged_in(x) {
+        return pass_stretches(d, p, x, 64, n, s, at, o, left);
     }
+    pass_stretches(d, p, x, 4294967296, n, s, at, o, left)
 }
 
 // The front of the array whose elements are of the type at p.

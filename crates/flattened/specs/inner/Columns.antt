@@ -43,11 +43,6 @@ module _ (o : Order) (s : List ℕ) where
   beyond (Fixed w k j) at = at + w
   beyond (Around b a k j) at = at + b + 4 + numberAt o s (at + b) 4 + a
 
-  -- the cursor past a value of the extent, which does not vary
-  unfoldable pub Passing : Extent → ℕ → Skip → Type 0
-  Passing x at Cut = Unit {0}
-  Passing x at (To c) = Definite x × (c .at ≡ beyond x at) × (c .at ≤ length s)
-
   -- the cursor past so many bytes, a string and so many bytes
   abbrev pub Across : ℕ → ℕ → ℕ → Skip → Type 0
   Across before after at r = ArrivesAt s (at + before + 4 + numberAt o s (at + before) 4 + after) r
@@ -91,7 +86,3 @@ module _ (o : Order) (s : List ℕ) where
   -- the element itself does
   abbrev pub EachKeptHere : Tree → Extent → ℕ → ℕ → Type 0
   EachKeptHere t whole at n = (i : ℕ) → i < n → Kept t (placeOf whole at i)
-
--- r is what follows `front` in `whole`, unless it varies
-pub record Follows (front r whole : Extent) : Type 0 where
-  pub same : (o : Order) (s : List ℕ) → Definite r → (at : ℕ) → beyond o s whole at ≡ beyond o s r (beyond o s front at)

@@ -16,6 +16,7 @@ use Rattle.flattened.specs.inner.Order.{orderOf}
 use Rattle.flattened.proofs.Named.{not-kind}
 use Rattle.flattened.proofs.Cases.{hasInside, row-inside}
 use Rattle.flattened.proofs.Types.{type-deep}
+use Rattle.elements.proofs.Placing.{roomy-fewer}
 use Rattle.elements.proofs.Keeping.{kept-members, kept-other, ahead-inside, definite-inside, RowLoop, row-begin, next-turn, here-definite, next-least, row-next, row-kept}
 use borrow.Fn.Kinds.{In}
 use borrow.Fn.PlainCycle.{Measures, is, falls, and}
@@ -141,55 +142,58 @@ columns-row-columns-of-requires t c κs =
         next-turn (now (a .d)) (a .k) (a .start) (a .left) (a .before) (orderOf (a .o)) (now (a .s)) (a .whole) (a .at) (a .n) (l .p) (l .front) (l .count) (l .i) (l .inv) (c .loop-test .taken) .first,
         (
           (l .inv .ahead, here-definite (now (a .d)) (a .k) (a .start) (a .left) (a .before) (orderOf (a .o)) (now (a .s)) (a .whole) (a .at) (a .n) (l .p) (l .front) (l .count) (l .i) (l .inv) (c .loop-test .taken)),
-          pre .1 .1 .1,
+          roomy-fewer (now (a .s)) (a .whole) (a .at) (l .count) (a .n) (l .inv .fewer) (pre .1 .1 .1),
         ),
       ),
     )
 
+columns-row-returns : (t : ℕ) → columns-row-lts.Need-returns (columns-row-calls t) (columns-row-at t) columns-row.Post columns-row-Inv-loop columns-row-μ-loop
+columns-row-returns t c = (omega arith, λ i l. absurd (omega arith))
+
 columns-row-extent-of-requires : (t : ℕ) → columns-row-lts.Need-extent-of-requires (columns-row-calls t) (columns-row-at t) columns-row.Post columns-row-Inv-loop columns-row-μ-loop
 columns-row-extent-of-requires t c κs =
-    let a = c .before .before .before .before .before .args in
-    let l = c .before .before .loop in
-    next-turn (now (a .d)) (a .k) (a .start) (a .left) (a .before) (orderOf (a .o)) (now (a .s)) (a .whole) (a .at) (a .n) (l .p) (l .front) (l .count) (l .i) (l .inv) (c .before .loop-test .taken) .first
+    let a = c .before .before .before .before .before .before .args in
+    let l = c .before .before .before .loop in
+    next-turn (now (a .d)) (a .k) (a .start) (a .left) (a .before) (orderOf (a .o)) (now (a .s)) (a .whole) (a .at) (a .n) (l .p) (l .front) (l .count) (l .i) (l .inv) (c .before .before .loop-test .taken) .first
 
 columns-row-joint-requires : (t : ℕ) → columns-row-lts.Need-joint-requires (columns-row-calls t) (columns-row-at t) columns-row.Post columns-row-Inv-loop columns-row-μ-loop
 columns-row-joint-requires t c κs =
-    let a = c .before .before .before .before .before .before .args in
-    let l = c .before .before .before .loop in
-    let turn = next-turn (now (a .d)) (a .k) (a .start) (a .left) (a .before) (orderOf (a .o)) (now (a .s)) (a .whole) (a .at) (a .n) (l .p) (l .front) (l .count) (l .i) (l .inv) (c .before .before .loop-test .taken) in
-    let next = next-least (now (a .d)) (a .k) (a .start) (a .left) (a .before) (orderOf (a .o)) (now (a .s)) (a .whole) (a .at) (a .n) (l .p) (l .front) (l .count) (l .i) (l .inv) (c .before .before .loop-test .taken) in
+    let a = c .before .before .before .before .before .before .before .args in
+    let l = c .before .before .before .before .loop in
+    let turn = next-turn (now (a .d)) (a .k) (a .start) (a .left) (a .before) (orderOf (a .o)) (now (a .s)) (a .whole) (a .at) (a .n) (l .p) (l .front) (l .count) (l .i) (l .inv) (c .before .before .before .loop-test .taken) in
+    let next = next-least (now (a .d)) (a .k) (a .start) (a .left) (a .before) (orderOf (a .o)) (now (a .s)) (a .whole) (a .at) (a .n) (l .p) (l .front) (l .count) (l .i) (l .inv) (c .before .before .before .loop-test .taken) in
     rw (c .extent-of .ensures)
     (omega (arith, l .inv .ahead .bytes, next .0, turn .within, turn .rest .small), omega (arith, l .inv .ahead .tokens, next .1, turn .within, turn .rest .small))
 
 columns-row-size-at-requires : (t : ℕ) → columns-row-lts.Need-size-at-requires (columns-row-calls t) (columns-row-at t) columns-row.Post columns-row-Inv-loop columns-row-μ-loop
 columns-row-size-at-requires t c κs =
-    let a = c .before .before .before .before .before .before .before .args in
-    let l = c .before .before .before .before .loop in
-    header-room (now (a .d)) (l .p) (next-turn (now (a .d)) (a .k) (a .start) (a .left) (a .before) (orderOf (a .o)) (now (a .s)) (a .whole) (a .at) (a .n) (l .p) (l .front) (l .count) (l .i) (l .inv) (c .before .before .before .loop-test .taken) .first .here)
+    let a = c .before .before .before .before .before .before .before .before .args in
+    let l = c .before .before .before .before .before .loop in
+    header-room (now (a .d)) (l .p) (next-turn (now (a .d)) (a .k) (a .start) (a .left) (a .before) (orderOf (a .o)) (now (a .s)) (a .whole) (a .at) (a .n) (l .p) (l .front) (l .count) (l .i) (l .inv) (c .before .before .before .before .loop-test .taken) .first .here)
 
 columns-row-add-p : (t : ℕ) → columns-row-lts.Need-add-p (columns-row-calls t) (columns-row-at t) columns-row.Post columns-row-Inv-loop columns-row-μ-loop
 columns-row-add-p t c =
-    let a = c .before .before .before .before .before .before .before .before .args in
-    let l = c .before .before .before .before .before .loop in
-    let turn = next-turn (now (a .d)) (a .k) (a .start) (a .left) (a .before) (orderOf (a .o)) (now (a .s)) (a .whole) (a .at) (a .n) (l .p) (l .front) (l .count) (l .i) (l .inv) (c .before .before .before .before .loop-test .taken) in
+    let a = c .before .before .before .before .before .before .before .before .before .args in
+    let l = c .before .before .before .before .before .before .loop in
+    let turn = next-turn (now (a .d)) (a .k) (a .start) (a .left) (a .before) (orderOf (a .o)) (now (a .s)) (a .whole) (a .at) (a .n) (l .p) (l .front) (l .count) (l .i) (l .inv) (c .before .before .before .before .before .loop-test .taken) in
     omega (arith, c .size-at .ensures .eq, turn .within, turn .rest .small)
 
 columns-row-add-i : (t : ℕ) → columns-row-lts.Need-add-i (columns-row-calls t) (columns-row-at t) columns-row.Post columns-row-Inv-loop columns-row-μ-loop
-columns-row-add-i t c = omega (arith, c .before .before .before .before .loop-test .taken)
+columns-row-add-i t c = omega (arith, c .before .before .before .before .before .loop-test .taken)
 
 columns-row-loop-less : (t : ℕ) → columns-row-lts.Need-loop-less (columns-row-calls t) (columns-row-at t) columns-row.Post columns-row-Inv-loop columns-row-μ-loop
-columns-row-loop-less t c = omega (arith, c .before .before .before .before .loop-test .taken)
+columns-row-loop-less t c = omega (arith, c .before .before .before .before .before .loop-test .taken)
 
 columns-row-loop-again : (t : ℕ) → columns-row-lts.Need-loop-again (columns-row-calls t) (columns-row-at t) columns-row.Post columns-row-Inv-loop columns-row-μ-loop
 columns-row-loop-again t c =
-    let a = c .before .before .before .before .before .before .before .before .args in
-    let l = c .before .before .before .before .before .loop in
-    let kept = c .before .before .before .columns-of in
+    let a = c .before .before .before .before .before .before .before .before .before .args in
+    let l = c .before .before .before .before .before .before .loop in
+    let kept = c .before .before .before .before .columns-of in
     rw (c .size-at .ensures .eq, c .before .joint .ensures, c .before .before .extent-of .ensures)
-    (row-next (now (a .d)) (a .k) (a .start) (a .left) (a .before) (orderOf (a .o)) (now (a .s)) (a .whole) (a .at) (a .n) (l .p) (l .front) (l .count) (l .i) (l .inv) (c .before .before .before .before .loop-test .taken) (kept .result) (kept .ensures .0) (kept .ensures .1))
+    (row-next (now (a .d)) (a .k) (a .start) (a .left) (a .before) (orderOf (a .o)) (now (a .s)) (a .whole) (a .at) (a .n) (l .p) (l .front) (l .count) (l .i) (l .inv) (c .before .before .before .before .before .loop-test .taken) (kept .result) (kept .ensures .0) (kept .ensures .1))
 
-columns-row-returns : (t : ℕ) → columns-row-lts.Need-returns (columns-row-calls t) (columns-row-at t) columns-row.Post columns-row-Inv-loop columns-row-μ-loop
-columns-row-returns t c =
+columns-row-returns-2 : (t : ℕ) → columns-row-lts.Need-returns-2 (columns-row-calls t) (columns-row-at t) columns-row.Post columns-row-Inv-loop columns-row-μ-loop
+columns-row-returns-2 t c =
     let a = c .before .before .before .before .args in
     let l = c .before .loop in
     row-kept (now (a .d)) (a .k) (a .start) (a .left) (a .before) (orderOf (a .o)) (now (a .s)) (a .whole) (a .at) (a .n) (l .p) (l .front) (l .count) (l .i) (l .inv) (c .loop-test .left)
@@ -216,6 +220,7 @@ pub +columns-of+columns-row-spec : {M : Type 1} → statement M
     columns-row-μ-loop
     (columns-row-loop-holds t)
     (columns-row-columns-of-requires t)
+    (columns-row-returns t)
     (columns-row-extent-of-requires t)
     (columns-row-joint-requires t)
     (columns-row-size-at-requires t)
@@ -223,4 +228,4 @@ pub +columns-of+columns-row-spec : {M : Type 1} → statement M
     (columns-row-add-i t)
     (columns-row-loop-less t)
     (columns-row-loop-again t)
-    (columns-row-returns t)
+    (columns-row-returns-2 t)

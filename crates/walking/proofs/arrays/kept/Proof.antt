@@ -1,102 +1,39 @@
--- `kept` meets its contract. The invariant: those counted each keep the rule.
+-- `kept` meets its contract: where there is a rule, the numbers are looked at side by side.
 use mathlib.Core.Path.{sym, _∙_}
-use Prim.Native.Nat.{_+_, _-_, _≤_, _<_}
 use native.Mathlib.Omega.{arith}
-use lib.ListN.{length}
 use denote.Ref.{now}
 use Rattle.flattened.specs.inner.Order.{orderOf}
-use Rattle.flattened.specs.inner.Extent.{typeRule}
-use Rattle.flattened.specs.inner.Types.{typeAt}
-use Rattle.flattened.specs.inner.Arrays.{EachKeeps}
-use Rattle.elements.proofs.Maxima.{fewer-within, more-within, each-more}
+use Rattle.flattened.proofs.Cases.{rule-narrow}
+use Rattle.walking.proofs.Passing.{any-kept, low-kept}
 use borrow.Author.Needs.{needs}
 use Rattle.walking.proofs.arrays.kept.Statement.{statement}
 use Rattle.walking.proofs.arrays.kept.Tie as tie
 
-abbrev Inv-loop : tie.InvT-loop
-Inv-loop d p w n s at o count₀ stretch₀ count stretch = (0 < stretch) × ((count ≤ n) × EachKeeps (typeRule (typeAt d p)) (orderOf o) s w at count)
+rule-of-requires : tie.Need-rule-of-requires
+rule-of-requires c κs = c .before .before .pre .0
 
-abbrev μ-loop : tie.MeasureT-loop
-μ-loop d p w n s at o count₀ stretch₀ count stretch = n - count
+enum-told : tie.Need-enum-told
+enum-told c = search needs
 
-loop-holds : tie.Need-loop-holds Inv-loop μ-loop
-loop-holds c = (omega arith, (omega arith, λ i h. absurd (omega arith)))
+enum-known-rule : tie.Need-enum-known-rule
+enum-known-rule c = search needs
 
-sub-shorter : tie.Need-sub-shorter Inv-loop μ-loop
-sub-shorter c = omega (arith, c .before .loop .inv .1 .0)
+low-requires : tie.Need-low-requires
+low-requires c κs =
+    let a = c .before .before .before .before .before .before .args in
+    let pre = c .before .before .before .before .before .before .pre in
+    let narrow = rule-narrow (now (a .d)) (a .p) (pre .0) _ _ (sym (c .before .rule .given .1) ∙ c .before .before .before .rule-of .ensures) in
+    (rw (pre .1 .0) narrow, omega (arith, pre .1 .1))
 
-shorter-requires : tie.Need-shorter-requires Inv-loop μ-loop
-shorter-requires c κs = (c .before .loop .inv .0, omega (arith, c .loop-test .taken))
-
-mul-kept-within : tie.Need-mul-kept-within Inv-loop μ-loop
-mul-kept-within c =
-    let a = c .before .before .before .before .before .args in
-    let l = c .before .before .loop in
-    let room = fewer-within (a .w) (a .at) (length (now (a .s))) (l .count) (a .n) (l .inv .1 .0) (c .before .before .before .before .before .pre .1 .1) in
-    record { fits = omega (arith, room) }
-
-add-kept-within : tie.Need-add-kept-within Inv-loop μ-loop
-add-kept-within c =
-    let a = c .before .before .before .before .before .args in
-    let l = c .before .before .loop in
-    let room = fewer-within (a .w) (a .at) (length (now (a .s))) (l .count) (a .n) (l .inv .1 .0) (c .before .before .before .before .before .pre .1 .1) in
-    record { fits = omega (arith, room) }
-
-kept-within-requires : tie.Need-kept-within-requires Inv-loop μ-loop
-kept-within-requires c κs =
-    let a = c .before .before .before .before .before .args in
-    let l = c .before .before .loop in
-    let pre = c .before .before .before .before .before .pre in
-    (pre .0, (pre .1 .0, more-within (a .w) (a .at) (length (now (a .s))) (l .count) (c .shorter .result) (a .n) (omega (arith, c .shorter .ensures .1, l .inv .1 .0)) (pre .1 .1)))
-
-add-count : tie.Need-add-count Inv-loop μ-loop
-add-count c = omega (arith, c .before .before .before .loop .inv .1 .0, c .before .shorter .ensures .1, c .kept-within .ensures .0)
-
-returns : tie.Need-returns Inv-loop μ-loop
+returns : tie.Need-returns
 returns c =
+    let a = c .before .before .before .before .before .args in
+    (omega arith, any-kept _ (orderOf (a .o)) (now (a .s)) (a .w) (a .at) (a .n) (sym (c .enum-told .given .1) ∙ c .before .before .rule-of .ensures))
+
+returns-2 : tie.Need-returns-2
+returns-2 c =
     let a = c .before .before .before .before .before .before .before .args in
-    let l = c .before .before .before .before .loop in
-    let more = c .before .kept-within in (
-      omega (arith, l .inv .1 .0, c .before .before .shorter .ensures .1, more .ensures .0),
-      each-more (typeRule (typeAt (now (a .d)) (a .p))) (orderOf (a .o)) (now (a .s)) (a .w) (a .at) (l .count) (more .result) (l .inv .1 .1) (more .ensures .1),
-    )
-
-longer-requires : tie.Need-longer-requires Inv-loop μ-loop
-longer-requires c κs = c .before .before .before .before .loop .inv .0
-
-loop-less : tie.Need-loop-less Inv-loop μ-loop
-loop-less c = omega (arith, c .before .before .before .before .before .loop .inv .1 .0, c .before .before .before .before .loop-test .taken, c .before .before .before .shorter .ensures, c .before .before .kept-within .ensures .0, c .before .if1 .left)
-
-loop-again : tie.Need-loop-again Inv-loop μ-loop
-loop-again c =
-    let a = c .before .before .before .before .before .before .before .before .args in
-    let l = c .before .before .before .before .before .loop in
-    let more = c .before .before .kept-within in (
-      c .longer .ensures,
-      (
-        omega (arith, l .inv .1 .0, c .before .before .before .shorter .ensures .1, more .ensures .0),
-        each-more (typeRule (typeAt (now (a .d)) (a .p))) (orderOf (a .o)) (now (a .s)) (a .w) (a .at) (l .count) (more .result) (l .inv .1 .1) (more .ensures .1),
-      ),
-    )
-
-returns-2 : tie.Need-returns-2 Inv-loop μ-loop
-returns-2 c = c .before .loop .inv .1
+    (c .low .ensures .0, low-kept _ (orderOf (a .o)) (now (a .s)) (a .w) (a .at) (c .low .result) _ _ (sym (c .before .before .rule .given .1) ∙ c .before .before .before .before .rule-of .ensures) (c .low .ensures .1))
 
 pub kept-spec : {M : Type 1} → statement M
-kept-spec =
-    tie.close
-    (tie.spec
-    Inv-loop
-    μ-loop
-    loop-holds
-    sub-shorter
-    shorter-requires
-    mul-kept-within
-    add-kept-within
-    kept-within-requires
-    add-count
-    returns
-    longer-requires
-    loop-less
-    loop-again
-    returns-2)
+kept-spec = tie.close (tie.spec rule-of-requires enum-told enum-known-rule low-requires returns returns-2)
