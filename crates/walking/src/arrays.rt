@@ -248,6 +248,40 @@ fn pass(d: &[u8], p: usize, n: usize, s: &[u8], at: usize, o: Order, left: usize
     pass_stretches(d, p, x, 4294967296, n, s, at, o, left)
 }
 
+// The front of an array of scalars of the type at p, of w bytes each. Nothing is handed on to be walked, so that the slices stay where they
+// are: an array of numbers in every element of another is the commonest of all.
+pub fn scalar_front(
+    d: &[u8],
+    p: usize,
+    w: usize,
+    dims: usize,
+    s: &[u8],
+    from: Cursor,
+    o: Order,
+) -> Front
+    requires { ⌜ Stands (now d) p ⌝ }
+    requires { ⌜ (w ≡ widthOf (codeIn (now d) p)) × (0 < w) ⌝ }
+    requires { ⌜ (1 ≤ dims) × (dims ≤ dimensionLimit) ⌝ }
+    requires { ⌜ DataAt (now s) (from .at) ⌝ }
+    ensures { λ r. ⌜ FrontMet (orderOf o) dims (typeAt (now (d .entry)) p) (now (s .entry)) (from .at) r ⌝ }
+{
+    let sizes = size_words(s, from, dims, o);
+    match sizes {
+        Sizes::Refused(number, place) => Front::Over(Progress::Refused(number, place)),
+        Sizes::Count(n, elements) => {
+            let start = elements.at;
+            let passed = pass_scalars(d, p, w, n, s, start, o);
+            let next = Cursor {
+                at: start + passed.bytes,
+            };
+            if passed.count == n {
+                return Front::Over(Progress::Walked(next, 1 + passed.tokens));
+            }
+            Front::Rest(n - passed.count, next, 1 + passed.tokens)
+        }
+    }
+}
+
 // The front of the array whose elements are of the type at p.
 pub fn array_front(
     d: &[u8],

@@ -2,6 +2,7 @@
 // of the depth left, and counts tokens.
 use super::arrays::Front;
 use super::arrays::array_front;
+use super::arrays::scalar_front;
 use descriptor::codes::Kind;
 use descriptor::codes::kind_of;
 use descriptor::header::code_at;
@@ -62,6 +63,13 @@ fn value(d: &[u8], p: usize, s: &[u8], from: Cursor, o: Order, left: usize) -> P
     }
     let inside = inside_of(d, p);
     if let Kind::Array = k {
+        let w = width(code_at(d, inside.at));
+        if w != 0 {
+            let front = scalar_front(d, inside.at, w, inside.count, s, from, o);
+            if let Front::Over(r) = front {
+                return r;
+            }
+        }
         return array(d, inside.at, inside.count, s, from, o, left - 1);
     }
     row(d, inside.at, inside.children, s, from, o, left - 1)

@@ -50,6 +50,7 @@ use Rattle.descriptor.proofs.header.size_at.Reads as size-at-reads
 use Rattle.descriptor.proofs.inside.inside_of.Reads as inside-of-reads
 use Rattle.descriptor.proofs.width.width.Reads as width-reads
 use Rattle.walking.proofs.arrays.array_front.Reads as array-front-reads
+use Rattle.walking.proofs.arrays.scalar_front.Reads as scalar-front-reads
 use Rattle.flattened.proofs.scalar.scalar.Reads as scalar-reads
 use Rattle.flattened.proofs.texts.texts.Reads as texts-reads
 use Rattle.walking.proofs.walk.after.Reads as after-reads
@@ -395,7 +396,7 @@ rows-returns-2 t c =
     repeat-end (λ e. walkAll (orderOf (a .o)) (typesAt d (a .k) (a .start)) s e) (a .n) (a .from .at) (l .i) (l .tokens) (l .next .at) (l .inv .0) (c .loop-test .left)
 
 abbrev value-calls : ℕ → value-lts.Claims
-value-calls t = (code-at-reads.Asked, code-at-reads.Learnt, kind-of-reads.Asked, kind-of-reads.Learnt, texts-reads.Asked, texts-reads.Learnt, inside-of-reads.Asked, inside-of-reads.Learnt, array-below t, array.Post, row-below t, row.Post)
+value-calls t = (code-at-reads.Asked, code-at-reads.Learnt, kind-of-reads.Asked, kind-of-reads.Learnt, texts-reads.Asked, texts-reads.Learnt, inside-of-reads.Asked, inside-of-reads.Learnt, width-reads.Asked, width-reads.Learnt, scalar-front-reads.Asked, scalar-front-reads.Learnt, array-below t, array.Post, row-below t, row.Post)
 
 value-code-at-requires : (t : ℕ) → value-lts.Need-code-at-requires (value-calls t) (value-at t) value.Post
 value-code-at-requires t c κs = let a = c .before .before .args in header-room (now (a .d)) (a .p) (c .before .before .pre .1 .0 .here)
@@ -424,27 +425,69 @@ value-inside-of-requires t c κs = c .before .before .before .before .before .pr
 value-enum-told-2 : (t : ℕ) → value-lts.Need-enum-told-2 (value-calls t) (value-at t) value.Post
 value-enum-told-2 t c = search needs
 
-value-sub-array : (t : ℕ) → value-lts.Need-sub-array (value-calls t) (value-at t) value.Post
-value-sub-array t c = let a = c .before .before .before .before .before .before .before .before .args in type-deep (now (a .d)) (a .p) (a .left) (c .before .before .before .before .before .before .before .before .pre .1 .0)
-
-value-array-requires : (t : ℕ) → value-lts.Need-array-requires (value-calls t) (value-at t) value.Post
+value-code-at-requires-2 : (t : ℕ) → value-lts.Need-code-at-requires-2 (value-calls t) (value-at t) value.Post
 unfolding kindNamed
-value-array-requires t c κs =
+value-code-at-requires-2 t c κs =
     let a = c .before .before .before .before .before .before .before .before .args in
     let d = now (a .d) in
     let s = now (a .s) in
     let kind = known _ kinds.Array (kindOf (c .before .before .before .before .before .code-at .result)) (c .before .before .before .before .kind-of .ensures) (c .enum-told2 .given .1) ∙ ap kindOf (c .before .before .before .before .before .code-at .ensures) in
     let inner = value-array d (a .p) (a .left) (c .before .before .before .before .before .before .before .before .pre .1 .0) _ (c .before .before .inside-of .ensures) kind in
-    (omega (arith, c .before .before .before .before .before .before .before .before .pre .0, type-deep d (a .p) (a .left) (c .before .before .before .before .before .before .before .before .pre .1 .0)), (inner .element, ((inner .least, inner .most), c .before .before .before .before .before .before .before .before .pre .1 .1 .1)))
+    header-room d _ (inner .element .here)
 
-value-returns-2 : (t : ℕ) → value-lts.Need-returns-2 (value-calls t) (value-at t) value.Post
+value-width-requires : (t : ℕ) → value-lts.Need-width-requires (value-calls t) (value-at t) value.Post
+value-width-requires t c κs = search needs
+
+value-scalar-front-requires : (t : ℕ) → value-lts.Need-scalar-front-requires (value-calls t) (value-at t) value.Post
 unfolding kindNamed
-value-returns-2 t c =
-    let a = c .before .before .before .before .before .before .before .before .before .args in
+value-scalar-front-requires t c κs =
+    let a = c .before .before .before .before .before .before .before .before .before .before .before .args in
     let d = now (a .d) in
     let s = now (a .s) in
-    let kind = known _ kinds.Array (kindOf (c .before .before .before .before .before .before .code-at .result)) (c .before .before .before .before .before .kind-of .ensures) (c .before .enum-told2 .given .1) ∙ ap kindOf (c .before .before .before .before .before .before .code-at .ensures) in
-    c .array .ensures ∙ sym (ap progress (value-array d (a .p) (a .left) (c .before .before .before .before .before .before .before .before .before .pre .1 .0) _ (c .before .before .before .inside-of .ensures) kind .walked (orderOf (a .o)) s (a .from .at)))
+    let kind = known _ kinds.Array (kindOf (c .before .before .before .before .before .before .before .before .code-at .result)) (c .before .before .before .before .before .before .before .kind-of .ensures) (c .before .before .before .enum-told2 .given .1) ∙ ap kindOf (c .before .before .before .before .before .before .before .before .code-at .ensures) in
+    let inner = value-array d (a .p) (a .left) (c .before .before .before .before .before .before .before .before .before .before .before .pre .1 .0) _ (c .before .before .before .before .before .inside-of .ensures) kind in
+    let wide = c .before .width .ensures ∙ ap widthOf (c .before .before .code-at2 .ensures) in
+    (inner .element .here, ((wide, omega (arith, c .if1 .taken)), ((inner .least, inner .most), c .before .before .before .before .before .before .before .before .before .before .before .pre .1 .1 .1)))
+
+value-enum-known-front : (t : ℕ) → value-lts.Need-enum-known-front (value-calls t) (value-at t) value.Post
+value-enum-known-front t c = search needs
+
+value-returns-2 : (t : ℕ) → value-lts.Need-returns-2 (value-calls t) (value-at t) value.Post
+unfolding kindNamed resumed
+value-returns-2 t c =
+    let a = c .before .before .before .before .before .before .before .before .before .before .before .before .before .before .before .args in
+    let d = now (a .d) in
+    let s = now (a .s) in
+    let kind = known _ kinds.Array (kindOf (c .before .before .before .before .before .before .before .before .before .before .before .before .code-at .result)) (c .before .before .before .before .before .before .before .before .before .before .before .kind-of .ensures) (c .before .before .before .before .before .before .before .enum-told2 .given .1) ∙ ap kindOf (c .before .before .before .before .before .before .before .before .before .before .before .before .code-at .ensures) in
+    let inner = value-array d (a .p) (a .left) (c .before .before .before .before .before .before .before .before .before .before .before .before .before .before .before .pre .1 .0) _ (c .before .before .before .before .before .before .before .before .before .inside-of .ensures) kind in
+    sym (c .before .before .before .scalar-front .ensures .eq ∙ ap (λ (f : Front). resumed f (λ n b. progress (repeat (λ e. walk (orderOf (a .o)) (typeAt d (c .before .before .before .before .before .before .before .before .before .inside-of .result .at)) s e) n b))) (c .before .front .given .1))
+    ∙ sym (ap progress (inner .walked (orderOf (a .o)) s (a .from .at)))
+
+value-enum-told-3 : (t : ℕ) → value-lts.Need-enum-told-3 (value-calls t) (value-at t) value.Post
+value-enum-told-3 t c = search needs
+
+value-sub-array : (t : ℕ) → value-lts.Need-sub-array (value-calls t) (value-at t) value.Post
+value-sub-array t c = let a = c .before .before .before .before .before .before .before .before .before .before .before .args in type-deep (now (a .d)) (a .p) (a .left) (c .before .before .before .before .before .before .before .before .before .before .before .pre .1 .0)
+
+value-array-requires : (t : ℕ) → value-lts.Need-array-requires (value-calls t) (value-at t) value.Post
+unfolding kindNamed
+value-array-requires t c κs =
+    let a = c .before .before .before .before .before .before .before .before .before .before .before .args in
+    let d = now (a .d) in
+    let s = now (a .s) in
+    let kind = known _ kinds.Array (kindOf (c .before .before .before .before .before .before .before .before .code-at .result)) (c .before .before .before .before .before .before .before .kind-of .ensures) (c .before .before .before .enum-told2 .given .1) ∙ ap kindOf (c .before .before .before .before .before .before .before .before .code-at .ensures) in
+    let inner = value-array d (a .p) (a .left) (c .before .before .before .before .before .before .before .before .before .before .before .pre .1 .0) _ (c .before .before .before .before .before .inside-of .ensures) kind in
+    (omega (arith, c .before .before .before .before .before .before .before .before .before .before .before .pre .0, type-deep d (a .p) (a .left) (c .before .before .before .before .before .before .before .before .before .before .before .pre .1 .0)), (inner .element, ((inner .least, inner .most), c .before .before .before .before .before .before .before .before .before .before .before .pre .1 .1 .1)))
+
+value-returns-3 : (t : ℕ) → value-lts.Need-returns-3 (value-calls t) (value-at t) value.Post
+unfolding kindNamed
+value-returns-3 t c =
+    let a = c .before .before .before .before .before .before .before .before .before .before .before .before .args in
+    let d = now (a .d) in
+    let s = now (a .s) in
+    let kind = known _ kinds.Array (kindOf (c .before .before .before .before .before .before .before .before .before .code-at .result)) (c .before .before .before .before .before .before .before .before .kind-of .ensures) (c .before .before .before .before .enum-told2 .given .1) ∙ ap kindOf (c .before .before .before .before .before .before .before .before .before .code-at .ensures) in
+    let inner = value-array d (a .p) (a .left) (c .before .before .before .before .before .before .before .before .before .before .before .before .pre .1 .0) _ (c .before .before .before .before .before .before .inside-of .ensures) kind in
+    c .array .ensures ∙ sym (ap progress (inner .walked (orderOf (a .o)) s (a .from .at)))
 
 value-sub-row : (t : ℕ) → value-lts.Need-sub-row (value-calls t) (value-at t) value.Post
 value-sub-row t c = let a = c .before .before .before .before .before .before .before .args in type-deep (now (a .d)) (a .p) (a .left) (c .before .before .before .before .before .before .before .pre .1 .0)
@@ -460,9 +503,9 @@ value-row-requires t c κs =
     let kind = is-cluster d (a .p) (c .before .before .before .before .before .before .before .pre .1 .0 .here) (c .before .before .before .before .before .before .before .pre .1 .1 .0) no-text no-array in
     (omega (arith, c .before .before .before .before .before .before .before .pre .0, type-deep d (a .p) (a .left) (c .before .before .before .before .before .before .before .pre .1 .0)), (row-inside d (a .p) (a .left) (c .before .before .before .before .before .before .before .pre .1 .0) _ (c .before .inside-of .ensures) (sym (ap hasInside kind)), c .before .before .before .before .before .before .before .pre .1 .1 .1))
 
-value-returns-3 : (t : ℕ) → value-lts.Need-returns-3 (value-calls t) (value-at t) value.Post
+value-returns-4 : (t : ℕ) → value-lts.Need-returns-4 (value-calls t) (value-at t) value.Post
 unfolding kindIs
-value-returns-3 t c =
+value-returns-4 t c =
     let a = c .before .before .before .before .before .before .before .before .args in
     let d = now (a .d) in
     let s = now (a .s) in
@@ -593,12 +636,18 @@ pub +array+row+rows+value+walk-spec : {M : Type 1} → statement M
     (value-returns t)
     (value-inside-of-requires t)
     (value-enum-told-2 t)
+    (value-code-at-requires-2 t)
+    (value-width-requires t)
+    (value-scalar-front-requires t)
+    (value-enum-known-front t)
+    (value-returns-2 t)
+    (value-enum-told-3 t)
     (value-sub-array t)
     (value-array-requires t)
-    (value-returns-2 t)
+    (value-returns-3 t)
     (value-sub-row t)
     (value-row-requires t)
-    (value-returns-3 t))
+    (value-returns-4 t))
     λ t. walk-lts.spec (walk-calls t)
     (walk-at t)
     walk.Post
