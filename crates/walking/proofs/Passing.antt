@@ -3,6 +3,7 @@
 use mathlib.Core.Path.{_≡_, refl, sym, ap, subst, _∙_}
 use mathlib.Core.Bool.{Bool}
 use mathlib.Core.List.{List, [], _∷_}
+use mathlib.Core.Logic.{⊎-elim}
 use Prim.Native.Nat.{ℕ, zero, suc, _+_, _-_, _*_, _/_, _<_, _≤_, min}
 use native.Mathlib.Nat.{add-zero, suc-mul, mul-le-mul-right, div-mul-le-self, div-lt-iff-lt-mul}
 use native.Mathlib.Decide.{decLt}
@@ -26,7 +27,8 @@ use Rattle.flattened.specs.inner.Extent.{keeps, typeRule, extentOf}
 use Rattle.flattened.specs.inner.Types.{typeAt, Solid}
 use Rattle.flattened.specs.inner.Columns.{Kept, EachKeptHere}
 use Rattle.flattened.specs.inner.Arrays.{elementsAt, EachKeeps}
-use Rattle.walking.specs.inner.Fronts.{Passes, resumed, Resumable, FrontMet}
+use Rattle.walking.specs.inner.Fronts.{Passes, LeftAfter, resumed, Resumable, FrontMet}
+use Rattle.walking.specs.declared.arrays.Front.{Front}
 use Rattle.walking.specs.declared.arrays.Front.the-variants.{Over, Rest}
 use Rattle.walking.specs.declared.arrays.Passed.{Passed}
 use Rattle.flattened.specs.declared.cursor.Cursor.{Cursor}
@@ -218,7 +220,7 @@ module _ (o : Order) (k : ℕ) (t : Tree) (s : List ℕ) (at : ℕ) where
       total = front-sized .whole ∙ ap (plus 1) rest ∙ plus-plus 1 (r .tokens) _
 
       -- every element was passed
-      pub front-over : r .count ≡ n → FrontMet o k t s at (Over (Walked (cursor (c .at + r .bytes)) (1 + r .tokens)))
+      front-over : r .count ≡ n → FrontMet o k t s at (Over (Walked (cursor (c .at + r .bytes)) (1 + r .tokens)))
       unfolding resumed Resumable repeat progress plus
       front-over e =
           let none : n - r .count ≡ 0 = omega arith in
@@ -231,9 +233,14 @@ module _ (o : Order) (k : ℕ) (t : Tree) (s : List ℕ) (at : ℕ) where
           }
 
       -- some were not
-      pub front-rest : 1 ≤ k → FrontMet o k t s at (Rest (n - r .count) (cursor (c .at + r .bytes)) (1 + r .tokens))
+      front-rest : 1 ≤ k → FrontMet o k t s at (Rest (n - r .count) (cursor (c .at + r .bytes)) (1 + r .tokens))
       unfolding resumed Resumable
       front-rest some = record {
         eq = total;
         within = (omega (arith, front-sized .place, front-within .tokens), front-within .inside);
       }
+
+      -- either way
+      pub front-left : 1 ≤ k → (f : Front) → LeftAfter n (c .at) r f → FrontMet o k t s at f
+      front-left some f left =
+          ⊎-elim (λ u. subst (λ (x : Front). FrontMet o k t s at x) (sym (u .1)) (front-over (u .0))) (λ e. subst (λ (x : Front). FrontMet o k t s at x) (sym e) (front-rest some)) left

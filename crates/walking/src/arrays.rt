@@ -27,7 +27,7 @@ ghost use Rattle.flattened.specs.inner.Order.{orderOf};
 ghost use Rattle.flattened.specs.inner.Extent.{typeRule, extentOf};
 ghost use Rattle.flattened.specs.inner.Types.{typeAt, TypeStands, DataAt};
 ghost use Rattle.flattened.specs.inner.Arrays.{EachKeeps};
-ghost use Rattle.walking.specs.inner.Fronts.{Passes, PassesEither, PassesAround, FrontMet};
+ghost use Rattle.walking.specs.inner.Fronts.{Passes, PassesEither, PassesAround, LeftAfter, FrontMet};
 
 // How many elements are passed in one step, and their bytes and tokens.
 pub struct Passed {
@@ -248,8 +248,22 @@ fn pass(d: &[u8], p: usize, n: usize, s: &[u8], at: usize, o: Order, left: usize
     pass_stretches(d, p, x, 4294967296, n, s, at, o, left)
 }
 
-// The front of an array of scalars of the type at p, of w bytes each. Nothing is handed on to be walked, so that the slices stay where they
-// are: an array of numbers in every element of another is the commonest of all.
+// What is left of n elements from `start` on, after those passed and the token of the sizes.
+fn left_after(n: usize, start: usize, passed: Passed) -> Front
+    requires { ⌜ (passed .count ≤ n) × (start + passed .bytes ≤ dataLimit) × (passed .tokens ≤ dataLimit) ⌝ }
+    ensures { λ r. ⌜ LeftAfter n start passed r ⌝ }
+{
+    let next = Cursor {
+        at: start + passed.bytes,
+    };
+    if passed.count == n {
+        return Front::Over(Progress::Walked(next, 1 + passed.tokens));
+    }
+    Front::Rest(n - passed.count, next, 1 + passed.tokens)
+}
+
+// The front of an array of scalars of the type at p, of w bytes each. It hands on no slice to a function that stands by itself, so that its
+// own are never laid down and read back.
 pub fn scalar_front(
     d: &[u8],
     p: usize,
@@ -271,13 +285,7 @@ pub fn scalar_front(
         Sizes::Count(n, elements) => {
             let start = elements.at;
             let passed = pass_scalars(d, p, w, n, s, start, o);
-            let next = Cursor {
-                at: start + passed.bytes,
-            };
-            if passed.count == n {
-                return Front::Over(Progress::Walked(next, 1 + passed.tokens));
-            }
-            Front::Rest(n - passed.count, next, 1 + passed.tokens)
+            left_after(n, start, passed)
         }
     }
 }
@@ -303,13 +311,7 @@ pub fn array_front(
         Sizes::Count(n, elements) => {
             let start = elements.at;
             let passed = pass(d, p, n, s, start, o, left);
-            let next = Cursor {
-                at: start + passed.bytes,
-            };
-            if passed.count == n {
-                return Front::Over(Progress::Walked(next, 1 + passed.tokens));
-            }
-            Front::Rest(n - passed.count, next, 1 + passed.tokens)
+            left_after(n, start, passed)
         }
     }
 }

@@ -2,7 +2,8 @@
 use mathlib.Core.Path.{_≡_}
 use mathlib.Core.Bool.{Bool}
 use mathlib.Core.List.{List}
-use Prim.Native.Nat.{ℕ, _+_, _≤_}
+use mathlib.Core.Logic.{_⊎_}
+use Prim.Native.Nat.{ℕ, _+_, _-_, _≤_}
 use lib.ListN.{length}
 use Rattle.descriptor.specs.Tree.{Tree}
 use Rattle.flattened.specs.Order.{Order}
@@ -10,10 +11,12 @@ use Rattle.flattened.specs.Walk.{repeat, walk}
 use Rattle.flattened.specs.inner.Arrays.{elementsAt}
 use Rattle.flattened.specs.inner.Extent.{extentOf}
 use Rattle.flattened.specs.inner.Columns.{EachKeptHere}
+use Rattle.flattened.specs.inner.Cursor.{cursor}
 use Rattle.flattened.specs.inner.Progress.{progress, plus, Reads}
 use Rattle.flattened.specs.declared.extent.Extent.{Extent}
 use Rattle.flattened.specs.declared.extent.Extent.the-variants.{Fixed, Around}
 use Rattle.flattened.specs.declared.progress.Progress.{Progress}
+use Rattle.flattened.specs.declared.progress.Progress.the-variants.{Walked}
 use Rattle.walking.specs.declared.arrays.Front.{Front}
 use Rattle.walking.specs.declared.arrays.Front.the-variants.{Over, Rest}
 use Rattle.walking.specs.declared.arrays.Passed.{Passed}
@@ -34,6 +37,11 @@ PassesEither w k s n at r = (o : Order) (j : Bool) → PassesIn o (Fixed w k j) 
 -- of so many bytes before and after a string
 abbrev pub PassesAround : Order → ℕ → ℕ → ℕ → List ℕ → ℕ → ℕ → Passed → Type 0
 PassesAround o before after k s n at r = (j : Bool) → PassesIn o (Around before after k j) s n at r
+
+-- what is left of n elements from a place on, after those passed
+abbrev pub LeftAfter : ℕ → ℕ → Passed → Front → Type 0
+LeftAfter n at q r =
+    ((q .count ≡ n) × (r ≡ Over (Walked (cursor (at + q .bytes)) (1 + q .tokens)))) ⊎ (r ≡ Rest (n - q .count) (cursor (at + q .bytes)) (1 + q .tokens))
 
 -- the progress of the whole, where `rest` walks so many elements from a place on
 unfoldable pub resumed : Front → (ℕ → ℕ → Progress) → Progress

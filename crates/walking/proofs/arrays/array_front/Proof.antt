@@ -5,7 +5,7 @@ use denote.Ref.{now}
 use Rattle.flattened.specs.inner.Order.{orderOf}
 use Rattle.flattened.specs.inner.Types.{typeAt}
 use Rattle.flattened.proofs.Types.{type-solid}
-use Rattle.walking.proofs.Passing.{front-refused, front-sized, front-within, front-over, front-rest}
+use Rattle.walking.proofs.Passing.{front-refused, front-sized, front-within, front-left}
 use borrow.Author.Needs.{needs}
 use Rattle.walking.proofs.arrays.array_front.Statement.{statement}
 use Rattle.walking.proofs.arrays.array_front.Tie as tie
@@ -27,68 +27,27 @@ pass-requires c κs =
     let sized = sym (c .before .sizes2 .given .1) ∙ c .before .before .before .size-words .ensures in
     (c .before .before .before .before .before .before .pre .0, record { inside = front-sized (orderOf (a .o)) (a .dims) t (now (a .s)) (a .from .at) solid (c .before .before .before .before .before .before .pre .1 .1 .short) _ _ sized .inside; short = c .before .before .before .before .before .before .pre .1 .1 .short })
 
-add-t18 : tie.Need-add-t18
-add-t18 c =
+left-after-requires : tie.Need-left-after-requires
+left-after-requires c κs =
+    let a = c .before .before .before .before .before .before .before .args in
+    let t = typeAt (now (a .d)) (a .p) in
+    let solid = type-solid (now (a .d)) (a .p) (a .left) (c .before .before .before .before .before .before .before .pre .0) in
+    let sized = sym (c .before .before .sizes2 .given .1) ∙ c .before .before .before .before .size-words .ensures in
+    let within = front-within (orderOf (a .o)) (a .dims) t (now (a .s)) (a .from .at) solid (c .before .before .before .before .before .before .before .pre .1 .1 .short) _ _ sized _ (c .pass .ensures) in
+    (c .pass .ensures .most, omega (arith, within .inside, c .before .before .before .before .before .before .before .pre .1 .1 .short), omega (arith, within .tokens, within .inside, c .before .before .before .before .before .before .before .pre .1 .1 .short))
+
+returns : tie.Need-returns
+returns c =
+    let a = c .before .before .before .before .before .before .args in
+    front-refused (orderOf (a .o)) (a .dims) _ (now (a .s)) (a .from .at) _ _ (sym (c .before .sizes .given .1) ∙ c .before .before .before .size-words .ensures)
+
+returns-2 : tie.Need-returns-2
+returns-2 c =
     let a = c .before .before .before .before .before .before .before .before .args in
     let t = typeAt (now (a .d)) (a .p) in
     let solid = type-solid (now (a .d)) (a .p) (a .left) (c .before .before .before .before .before .before .before .before .pre .0) in
     let sized = sym (c .before .before .before .sizes2 .given .1) ∙ c .before .before .before .before .before .size-words .ensures in
-    omega (arith, front-within (orderOf (a .o)) (a .dims) t (now (a .s)) (a .from .at) solid (c .before .before .before .before .before .before .before .before .pre .1 .1 .short) _ _ sized _ (c .before .pass .ensures) .inside, c .before .before .before .before .before .before .before .before .pre .1 .1 .short)
-
-add-t20 : tie.Need-add-t20
-add-t20 c =
-    let a = c .before .before .before .before .before .before .before .before .before .before .before .args in
-    let t = typeAt (now (a .d)) (a .p) in
-    let solid = type-solid (now (a .d)) (a .p) (a .left) (c .before .before .before .before .before .before .before .before .before .before .before .pre .0) in
-    let sized = sym (c .before .before .before .before .before .before .sizes2 .given .1) ∙ c .before .before .before .before .before .before .before .before .size-words .ensures in
-    let within = front-within (orderOf (a .o)) (a .dims) t (now (a .s)) (a .from .at) solid (c .before .before .before .before .before .before .before .before .before .before .before .pre .1 .1 .short) _ _ sized _ (c .before .before .before .before .pass .ensures) in
-    omega (arith, within .tokens, within .inside, c .before .before .before .before .before .before .before .before .before .before .before .pre .1 .1 .short)
-
-returns : tie.Need-returns
-returns c =
-    let a = c .before .before .before .before .before .before .before .before .before .before .before .args in
-    let t = typeAt (now (a .d)) (a .p) in
-    let solid = type-solid (now (a .d)) (a .p) (a .left) (c .before .before .before .before .before .before .before .before .before .before .before .pre .0) in
-    let sized = sym (c .before .before .before .before .before .before .sizes2 .given .1) ∙ c .before .before .before .before .before .before .before .before .size-words .ensures in
-    front-over (orderOf (a .o)) (a .dims) t (now (a .s)) (a .from .at) solid (c .before .before .before .before .before .before .before .before .before .before .before .pre .1 .1 .short) _ _ sized _ (c .before .before .before .before .pass .ensures) (c .before .if1 .taken)
-
-sub-t18 : tie.Need-sub-t18
-sub-t18 c = omega (arith, c .before .before .before .before .pass .ensures .most)
-
-add-t22 : tie.Need-add-t22
-add-t22 c =
-    let a = c .before .before .before .before .before .before .before .before .before .before .before .before .args in
-    let t = typeAt (now (a .d)) (a .p) in
-    let solid = type-solid (now (a .d)) (a .p) (a .left) (c .before .before .before .before .before .before .before .before .before .before .before .before .pre .0) in
-    let sized = sym (c .before .before .before .before .before .before .before .sizes2 .given .1) ∙ c .before .before .before .before .before .before .before .before .before .size-words .ensures in
-    let within = front-within (orderOf (a .o)) (a .dims) t (now (a .s)) (a .from .at) solid (c .before .before .before .before .before .before .before .before .before .before .before .before .pre .1 .1 .short) _ _ sized _ (c .before .before .before .before .before .pass .ensures) in
-    omega (arith, within .tokens, within .inside, c .before .before .before .before .before .before .before .before .before .before .before .before .pre .1 .1 .short)
-
-returns-2 : tie.Need-returns-2
-returns-2 c =
-    let a = c .before .before .before .before .before .before .args in
-    front-refused (orderOf (a .o)) (a .dims) _ (now (a .s)) (a .from .at) _ _ (sym (c .before .sizes .given .1) ∙ c .before .before .before .size-words .ensures)
-
-returns-3 : tie.Need-returns-3
-returns-3 c =
-    let a = c .before .before .before .before .before .before .before .before .before .before .before .before .args in
-    let t = typeAt (now (a .d)) (a .p) in
-    let solid = type-solid (now (a .d)) (a .p) (a .left) (c .before .before .before .before .before .before .before .before .before .before .before .before .pre .0) in
-    let sized = sym (c .before .before .before .before .before .before .before .sizes2 .given .1) ∙ c .before .before .before .before .before .before .before .before .before .size-words .ensures in
-    front-rest (orderOf (a .o)) (a .dims) t (now (a .s)) (a .from .at) solid (c .before .before .before .before .before .before .before .before .before .before .before .before .pre .1 .1 .short) _ _ sized _ (c .before .before .before .before .before .pass .ensures) (c .before .before .before .before .before .before .before .before .before .before .before .before .pre .1 .0 .0)
+    front-left (orderOf (a .o)) (a .dims) t (now (a .s)) (a .from .at) solid (c .before .before .before .before .before .before .before .before .pre .1 .1 .short) _ _ sized _ (c .before .pass .ensures) (c .before .before .before .before .before .before .before .before .pre .1 .0 .0) _ (c .left-after .ensures)
 
 pub array-front-spec : {M : Type 1} → statement M
-array-front-spec =
-    tie.close
-    (tie.spec
-    size-words-requires
-    enum-known-sizes
-    enum-known-sizes-2
-    pass-requires
-    add-t18
-    add-t20
-    returns
-    sub-t18
-    add-t22
-    returns-2
-    returns-3)
+array-front-spec = tie.close (tie.spec size-words-requires enum-known-sizes enum-known-sizes-2 pass-requires left-after-requires returns returns-2)
