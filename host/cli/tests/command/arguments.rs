@@ -244,7 +244,7 @@ const WRONG: [(&[&str], &str); 21] = [
     ),
     (
         &["check", "a", "--all=1"],
-        "there is no option --all; see kerbcanopy --help",
+        "--all takes no value; see kerbcanopy --help",
     ),
     (
         &["look", "--help"],
