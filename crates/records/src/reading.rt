@@ -34,7 +34,7 @@ fn read_members(
     let top = inside_of(w, 0);
     let k = top.children;
     list_members(w, k, top.at, &mut places, &mut names);
-    let mut picks = [0u16; 256];
+    let mut picks = [0u8; 256];
     let picked = pick_all(
         w,
         k,

@@ -1,6 +1,6 @@
 // The reader's members' bytes, joined.
 use super::columns::position;
-use super::columns::wide;
+use number::endian::wide;
 ghost use mathlib.Core.Path.{_≡_};
 ghost use mathlib.Core.List.{_++_};
 ghost use Prim.Native.Nat.{_≤_};
@@ -9,7 +9,7 @@ ghost use Rattle.resolution.specs.inner.Picking.{pickedBytes};
 ghost use Rattle.resolution.specs.inner.Tops.{Copies};
 
 // Writes the bytes of the n members picked, joined, to the front of out.
-pub fn copy_picked(s: &[u8], starts: &[u32; 257], picks: &[u16; 256], n: usize, out: &mut [u8])
+pub fn copy_picked(s: &[u8], starts: &[u32; 257], picks: &[u8; 256], n: usize, out: &mut [u8])
     requires { ⌜ Copies (now s) (now starts) (now picks) n ⌝ }
     requires { ⌜ length (pickedBytes (now s) (now starts) (now picks) n) ≤ length (now out) ⌝ }
     ensures { λ _. ⌜ now (out .exit) ≡ pickedBytes (now (s .entry)) (now (starts .entry)) (now (picks .entry)) n ++ drop (length (pickedBytes (now (s .entry)) (now (starts .entry)) (now (picks .entry)) n)) (now (out .entry)) ⌝ }

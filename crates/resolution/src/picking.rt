@@ -57,7 +57,7 @@ pub fn pick_all(
     reading: &[u16; 256],
     called: &[u16; 256],
     starts: &[u32; 257],
-    picks: &mut [u16; 256],
+    picks: &mut [u8; 256],
 ) -> Step
     requires { ⌜ Listed (now w) k (now places) (now names) ⌝ }
     requires { ⌜ Listed (now r) n (now reading) (now called) ⌝ }
@@ -79,7 +79,7 @@ pub fn pick_all(
             return p;
         }
         let i = p.value;
-        picks[j] = i as u16;
+        picks[j] = i as u8;
         total += position(starts[i + 1]) - position(starts[i]);
         j += 1;
     }

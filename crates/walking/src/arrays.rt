@@ -1,6 +1,4 @@
 // The front of an array: its size words, and the elements that are passed in one step.
-use descriptor::header::code_at;
-use descriptor::width::width;
 use elements::columns::across;
 use elements::columns::keeping;
 use elements::largest::longer;
@@ -230,17 +228,13 @@ fn judged_in(x: Extent) -> bool {
     }
 }
 
-// How many of the first of n elements of the type at p are passed in one step: scalars up to one that is refused, and others by their
-// extent, where none is judged as one stretch of all that an array can have.
+// How many of the first of n elements of the type at p are passed in one step, by their extent; where none is judged, as one stretch of
+// all that an array can have.
 fn pass(d: &[u8], p: usize, n: usize, s: &[u8], at: usize, o: Order, left: usize) -> Passed
     requires { ⌜ TypeStands (now d) p left ⌝ }
     requires { ⌜ DataAt (now s) at ⌝ }
     ensures { λ r. ⌜ Passes (orderOf o) (typeAt (now (d .entry)) p) (now (s .entry)) n at r ⌝ }
 {
-    let scalar = width(code_at(d, p));
-    if scalar != 0 {
-        return pass_scalars(d, p, scalar, n, s, at, o);
-    }
     let x = extent_of(d, p, left);
     if judged_in(x) {
         return pass_stretches(d, p, x, 64, n, s, at, o, left);

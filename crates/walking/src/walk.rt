@@ -16,14 +16,15 @@ use flattened::scalar::scalar;
 use flattened::texts::texts;
 ghost use mathlib.Core.Path.{_≡_};
 ghost use Prim.Native.Nat.{_+_, _^_, _≤_, _<_};
-ghost use Rattle.descriptor.specs.Limits.{dimensionLimit};
+ghost use lib.ListN.{length};
+ghost use Rattle.descriptor.specs.Limits.{dataLimit};
 ghost use Rattle.descriptor.specs.Header.{codeIn};
 ghost use Rattle.descriptor.specs.Width.{widthOf};
 ghost use Rattle.flattened.specs.Walk.{repeat, walk, walkAll};
 ghost use Rattle.flattened.specs.inner.Order.{orderOf};
 ghost use Rattle.flattened.specs.inner.Progress.{progress, plus, tokensOf};
 ghost use Rattle.flattened.specs.inner.Types.{typeAt, typesAt, TypeStands, RowStands, DataAt};
-ghost use Rattle.flattened.specs.inner.Arrays.{elementsAt};
+ghost use Rattle.walking.specs.inner.Fronts.{resumed, Resumable};
 
 // The progress r after `tokens` tokens.
 fn after(tokens: usize, r: Progress) -> Progress
@@ -36,14 +37,12 @@ fn after(tokens: usize, r: Progress) -> Progress
     }
 }
 
-// The array of `dims` dimensions whose elements are of the type at p.
-fn array(d: &[u8], p: usize, dims: usize, s: &[u8], from: Cursor, o: Order, left: usize) -> Progress
+// What an array comes to after its front: the elements that are left, of the type at p, are walked.
+fn array(d: &[u8], p: usize, front: Front, s: &[u8], o: Order, left: usize) -> Progress
     requires { ⌜ TypeStands (now d) p left ⌝ }
-    requires { ⌜ (1 ≤ dims) × (dims ≤ dimensionLimit) ⌝ }
-    requires { ⌜ DataAt (now s) (from .at) ⌝ }
-    ensures { λ r. ⌜ r ≡ progress (elementsAt (orderOf o) dims (λ a. walk (orderOf o) (typeAt (now (d .entry)) p) (now (s .entry)) a) (now (s .entry)) (from .at)) ⌝ }
+    requires { ⌜ Resumable (now s) front × (length (now s) ≤ dataLimit) ⌝ }
+    ensures { λ r. ⌜ r ≡ resumed front (λ n a. progress (repeat (λ e. walk (orderOf o) (typeAt (now (d .entry)) p) (now (s .entry)) e) n a)) ⌝ }
 {
-    let front = array_front(d, p, dims, s, from, o, left);
     match front {
         Front::Over(r) => r,
         Front::Rest(n, next, tokens) => after(tokens, walk(d, p, n, s, next, o, left)),
@@ -64,13 +63,12 @@ fn value(d: &[u8], p: usize, s: &[u8], from: Cursor, o: Order, left: usize) -> P
     let inside = inside_of(d, p);
     if let Kind::Array = k {
         let w = width(code_at(d, inside.at));
-        if w != 0 {
-            let front = scalar_front(d, inside.at, w, inside.count, s, from, o);
-            if let Front::Over(r) = front {
-                return r;
-            }
-        }
-        return array(d, inside.at, inside.count, s, from, o, left - 1);
+        let front = if w != 0 {
+            scalar_front(d, inside.at, w, inside.count, s, from, o)
+        } else {
+            array_front(d, inside.at, inside.count, s, from, o, left - 1)
+        };
+        return array(d, inside.at, front, s, o, left - 1);
     }
     row(d, inside.at, inside.children, s, from, o, left - 1)
 }

@@ -18,9 +18,6 @@ loop-holds c =
     let b = c .before .before in
     copy-begin (now (b .args .s)) (now (b .args .starts)) (now (b .args .picks)) (b .args .n) (now (b .args .out)) (b .pre .0) (b .pre .1)
 
-mul-wide : tie.Need-mul-wide Inv-loop μ-loop
-mul-wide c = omega (arith, c .loop-test .taken, c .before .before .before .before .pre .0 .few)
-
 element-copy-out-wide : tie.Need-element-copy-out-wide Inv-loop μ-loop
 element-copy-out-wide c = omega (arith, c .loop-test .taken, c .before .before .before .before .pre .0 .few)
 
@@ -145,7 +142,6 @@ copy-picked-spec =
     Inv-loop
     μ-loop
     loop-holds
-    mul-wide
     element-copy-out-wide
     wide-requires
     mul-position

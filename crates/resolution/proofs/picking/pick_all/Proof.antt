@@ -66,9 +66,6 @@ cast-picks c =
     let pre = b .pre in
     omega (arith, plan-inside (now (b .args .w)) (b .args .k) (now (b .args .r)) (b .args .n) (now (b .args .reading)) (now (b .args .called)) (now (b .args .starts)) (pre .1 .0) (pre .1 .1 .0) (pre .1 .1 .1 .0) (l .picks) (l .total) (l .j) (l .inv) (c .before .before .before .before .before .before .before .before .before .loop-test .taken) _ (c .before .before .before .before .before .before .before .wide .ensures .eq) _ (c .before .before .pick .ensures) (not-false _ (c .if1 .left)), pre .0 .members .few)
 
-mul-picks : tie.Need-mul-picks Inv-loop μ-loop
-mul-picks c = omega (arith, c .before .before .before .before .before .before .before .before .before .loop-test .taken, c .before .before .before .before .before .before .before .before .before .before .before .before .before .before .before .before .pre .1 .0 .members .few)
-
 element-write-picks : tie.Need-element-write-picks Inv-loop μ-loop
 element-write-picks c = omega (arith, c .before .before .before .before .before .before .before .before .before .loop-test .taken, c .before .before .before .before .before .before .before .before .before .before .before .before .before .before .before .before .pre .1 .0 .members .few)
 
@@ -167,7 +164,6 @@ pick-all-spec =
     pick-requires
     returns
     cast-picks
-    mul-picks
     element-write-picks
     add-position
     mul-position

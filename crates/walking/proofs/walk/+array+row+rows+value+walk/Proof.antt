@@ -18,7 +18,7 @@ use Rattle.flattened.specs.Walk.{repeat, walk, walkAll}
 use Rattle.flattened.specs.inner.Order.{orderOf}
 use Rattle.flattened.specs.inner.Progress.{progress, plus, tokensOf}
 use Rattle.flattened.specs.inner.Types.{typeAt, typesAt}
-use Rattle.walking.specs.inner.Fronts.{resumed, Resumable}
+use Rattle.walking.specs.inner.Fronts.{resumed, Resumable, FrontMet}
 use Rattle.walking.specs.declared.arrays.Front.{Front}
 use Rattle.flattened.specs.declared.progress.Progress.{Progress}
 use Rattle.flattened.proofs.Named.{not-kind}
@@ -58,7 +58,7 @@ use Rattle.walking.proofs.walk.+array+row+rows+value+walk.{statement}
 use Rattle.walking.proofs.walk.+array+row+rows+value+walk.Tie.{close}
 
 abbrev μ-array : Measures 2 array-kinds.ps ℕ
-μ-array κs a = 5 * a .1 .1 .1 .1 .1 .1 .0 + 4
+μ-array κs a = 5 * a .1 .1 .1 .1 .1 .0 + 4
 
 abbrev μ-row : Measures 2 row-kinds.ps ℕ
 μ-row κs a = 5 * a .1 .1 .1 .1 .1 .1 .0 + 1
@@ -103,10 +103,7 @@ abbrev walk-below : ℕ → In 2 walk-kinds.ps
 walk-below t = and 2 walk-kinds.ps (falls 2 walk-kinds.ps _<_ μ-walk t) walk.Pre
 
 abbrev array-calls : ℕ → array-lts.Claims
-array-calls t = (array-front-reads.Asked, array-front-reads.Learnt, walk-below t, walk.Post, after-reads.Asked, after-reads.Learnt)
-
-array-array-front-requires : (t : ℕ) → array-lts.Need-array-front-requires (array-calls t) (array-at t) array.Post
-array-array-front-requires t c κs = c .before .before .pre .1
+array-calls t = (walk-below t, walk.Post, after-reads.Asked, after-reads.Learnt)
 
 array-enum-known-front : (t : ℕ) → array-lts.Need-enum-known-front (array-calls t) (array-at t) array.Post
 array-enum-known-front t c = search needs
@@ -117,39 +114,38 @@ array-enum-known-front-2 t c = search needs
 array-walk-requires : (t : ℕ) → array-lts.Need-walk-requires (array-calls t) (array-at t) array.Post
 unfolding Resumable
 array-walk-requires t c κs =
-    let a = c .before .before .before .before .before .before .args in
+    let a = c .before .before .before .before .before .args in
     let d = now (a .d) in
     let s = now (a .s) in
-    let left = subst (λ (f : Front). Resumable s f) (c .before .front2 .given .1) (c .before .before .before .array-front .ensures .within) in
-    (omega (arith, c .before .before .before .before .before .before .pre .0), (c .before .before .before .before .before .before .pre .1 .0, record { inside = left .1; short = c .before .before .before .before .before .before .pre .1 .1 .1 .short }))
+    let left = subst (λ (f : Front). Resumable s f) (c .before .front2 .given .1) (c .before .before .before .before .before .pre .1 .1 .0) in
+    (omega (arith, c .before .before .before .before .before .pre .0), (c .before .before .before .before .before .pre .1 .0, record { inside = left .1; short = c .before .before .before .before .before .pre .1 .1 .1 }))
 
 array-after-requires : (t : ℕ) → array-lts.Need-after-requires (array-calls t) (array-at t) array.Post
 unfolding Resumable
 array-after-requires t c κs =
-    let a = c .before .before .before .before .before .before .before .args in
+    let a = c .before .before .before .before .before .before .args in
     let d = now (a .d) in
     let s = now (a .s) in
-    let left = subst (λ (f : Front). Resumable s f) (c .before .before .front2 .given .1) (c .before .before .before .before .array-front .ensures .within) in
+    let left = subst (λ (f : Front). Resumable s f) (c .before .before .front2 .given .1) (c .before .before .before .before .before .before .pre .1 .1 .0) in
     let few : tokensOf (c .walk .result) ≤ length s =
-    subst (λ (r : Progress). tokensOf r ≤ length s) (sym (c .walk .ensures)) (values-few d (a .p) (a .left) (c .before .before .before .before .before .before .before .pre .1 .0) (orderOf (a .o)) s _ _ (left .1)) in
-    omega (arith, left .0, left .1, c .before .before .before .before .before .before .before .pre .1 .1 .1 .short)
+    subst (λ (r : Progress). tokensOf r ≤ length s) (sym (c .walk .ensures)) (values-few d (a .p) (a .left) (c .before .before .before .before .before .before .pre .1 .0) (orderOf (a .o)) s _ _ (left .1)) in
+    omega (arith, left .0, left .1, c .before .before .before .before .before .before .pre .1 .1 .1)
 
 array-returns : (t : ℕ) → array-lts.Need-returns (array-calls t) (array-at t) array.Post
 unfolding resumed
 array-returns t c =
-    let a = c .before .before .before .before .before .before .args in
+    let a = c .before .before .before .before .before .args in
     let d = now (a .d) in
     let s = now (a .s) in
-    sym (c .before .before .before .array-front .ensures .eq ∙ ap (λ (f : Front). resumed f (λ n b. progress (repeat (λ e. walk (orderOf (a .o)) (typeAt d (a .p)) s e) n b))) (c .before .front .given .1))
+    sym (ap (λ (f : Front). resumed f (λ n b. progress (repeat (λ e. walk (orderOf (a .o)) (typeAt d (a .p)) s e) n b))) (c .before .front .given .1))
 
 array-returns-2 : (t : ℕ) → array-lts.Need-returns-2 (array-calls t) (array-at t) array.Post
 unfolding resumed
 array-returns-2 t c =
-    let a = c .before .before .before .before .before .before .before .before .args in
+    let a = c .before .before .before .before .before .before .before .args in
     let d = now (a .d) in
     let s = now (a .s) in
-    c .after .ensures ∙ ap (plus _) (c .before .walk .ensures)
-    ∙ sym (c .before .before .before .before .before .array-front .ensures .eq ∙ ap (λ (f : Front). resumed f (λ n b. progress (repeat (λ e. walk (orderOf (a .o)) (typeAt d (a .p)) s e) n b))) (c .before .before .before .front2 .given .1))
+    c .after .ensures ∙ ap (plus _) (c .before .walk .ensures) ∙ sym (ap (λ (f : Front). resumed f (λ n b. progress (repeat (λ e. walk (orderOf (a .o)) (typeAt d (a .p)) s e) n b))) (c .before .before .before .front2 .given .1))
 
 abbrev row-Inv-loop : row-lts.InvT-loop
 row-Inv-loop d start k s o left p₀ next₀ tokens₀ i₀ p next tokens i = RowLoop d (orderOf o) s k start (next₀ .at) left p (next .at) tokens i
@@ -396,7 +392,7 @@ rows-returns-2 t c =
     repeat-end (λ e. walkAll (orderOf (a .o)) (typesAt d (a .k) (a .start)) s e) (a .n) (a .from .at) (l .i) (l .tokens) (l .next .at) (l .inv .0) (c .loop-test .left)
 
 abbrev value-calls : ℕ → value-lts.Claims
-value-calls t = (code-at-reads.Asked, code-at-reads.Learnt, kind-of-reads.Asked, kind-of-reads.Learnt, texts-reads.Asked, texts-reads.Learnt, inside-of-reads.Asked, inside-of-reads.Learnt, width-reads.Asked, width-reads.Learnt, scalar-front-reads.Asked, scalar-front-reads.Learnt, array-below t, array.Post, row-below t, row.Post)
+value-calls t = (code-at-reads.Asked, code-at-reads.Learnt, kind-of-reads.Asked, kind-of-reads.Learnt, texts-reads.Asked, texts-reads.Learnt, inside-of-reads.Asked, inside-of-reads.Learnt, width-reads.Asked, width-reads.Learnt, scalar-front-reads.Asked, scalar-front-reads.Learnt, array-front-reads.Asked, array-front-reads.Learnt, array-below t, array.Post, row-below t, row.Post)
 
 value-code-at-requires : (t : ℕ) → value-lts.Need-code-at-requires (value-calls t) (value-at t) value.Post
 value-code-at-requires t c κs = let a = c .before .before .args in header-room (now (a .d)) (a .p) (c .before .before .pre .1 .0 .here)
@@ -449,22 +445,18 @@ value-scalar-front-requires t c κs =
     let wide = c .before .width .ensures ∙ ap widthOf (c .before .before .code-at2 .ensures) in
     (inner .element .here, ((wide, omega (arith, c .if1 .taken)), ((inner .least, inner .most), c .before .before .before .before .before .before .before .before .before .before .before .pre .1 .1 .1)))
 
-value-enum-known-front : (t : ℕ) → value-lts.Need-enum-known-front (value-calls t) (value-at t) value.Post
-value-enum-known-front t c = search needs
+value-sub-array-front : (t : ℕ) → value-lts.Need-sub-array-front (value-calls t) (value-at t) value.Post
+value-sub-array-front t c = let a = c .before .before .before .before .before .before .before .before .before .before .before .args in type-deep (now (a .d)) (a .p) (a .left) (c .before .before .before .before .before .before .before .before .before .before .before .pre .1 .0)
 
-value-returns-2 : (t : ℕ) → value-lts.Need-returns-2 (value-calls t) (value-at t) value.Post
-unfolding kindNamed resumed
-value-returns-2 t c =
-    let a = c .before .before .before .before .before .before .before .before .before .before .before .before .before .before .before .args in
+value-array-front-requires : (t : ℕ) → value-lts.Need-array-front-requires (value-calls t) (value-at t) value.Post
+unfolding kindNamed
+value-array-front-requires t c κs =
+    let a = c .before .before .before .before .before .before .before .before .before .before .before .args in
     let d = now (a .d) in
     let s = now (a .s) in
-    let kind = known _ kinds.Array (kindOf (c .before .before .before .before .before .before .before .before .before .before .before .before .code-at .result)) (c .before .before .before .before .before .before .before .before .before .before .before .kind-of .ensures) (c .before .before .before .before .before .before .before .enum-told2 .given .1) ∙ ap kindOf (c .before .before .before .before .before .before .before .before .before .before .before .before .code-at .ensures) in
-    let inner = value-array d (a .p) (a .left) (c .before .before .before .before .before .before .before .before .before .before .before .before .before .before .before .pre .1 .0) _ (c .before .before .before .before .before .before .before .before .before .inside-of .ensures) kind in
-    sym (c .before .before .before .scalar-front .ensures .eq ∙ ap (λ (f : Front). resumed f (λ n b. progress (repeat (λ e. walk (orderOf (a .o)) (typeAt d (c .before .before .before .before .before .before .before .before .before .inside-of .result .at)) s e) n b))) (c .before .front .given .1))
-    ∙ sym (ap progress (inner .walked (orderOf (a .o)) s (a .from .at)))
-
-value-enum-told-3 : (t : ℕ) → value-lts.Need-enum-told-3 (value-calls t) (value-at t) value.Post
-value-enum-told-3 t c = search needs
+    let kind = known _ kinds.Array (kindOf (c .before .before .before .before .before .before .before .before .code-at .result)) (c .before .before .before .before .before .before .before .kind-of .ensures) (c .before .before .before .enum-told2 .given .1) ∙ ap kindOf (c .before .before .before .before .before .before .before .before .code-at .ensures) in
+    let inner = value-array d (a .p) (a .left) (c .before .before .before .before .before .before .before .before .before .before .before .pre .1 .0) _ (c .before .before .before .before .before .inside-of .ensures) kind in
+    (inner .element, ((inner .least, inner .most), c .before .before .before .before .before .before .before .before .before .before .before .pre .1 .1 .1))
 
 value-sub-array : (t : ℕ) → value-lts.Need-sub-array (value-calls t) (value-at t) value.Post
 value-sub-array t c = let a = c .before .before .before .before .before .before .before .before .before .before .before .args in type-deep (now (a .d)) (a .p) (a .left) (c .before .before .before .before .before .before .before .before .before .before .before .pre .1 .0)
@@ -477,17 +469,21 @@ value-array-requires t c κs =
     let s = now (a .s) in
     let kind = known _ kinds.Array (kindOf (c .before .before .before .before .before .before .before .before .code-at .result)) (c .before .before .before .before .before .before .before .kind-of .ensures) (c .before .before .before .enum-told2 .given .1) ∙ ap kindOf (c .before .before .before .before .before .before .before .before .code-at .ensures) in
     let inner = value-array d (a .p) (a .left) (c .before .before .before .before .before .before .before .before .before .before .before .pre .1 .0) _ (c .before .before .before .before .before .inside-of .ensures) kind in
-    (omega (arith, c .before .before .before .before .before .before .before .before .before .before .before .pre .0, type-deep d (a .p) (a .left) (c .before .before .before .before .before .before .before .before .before .before .before .pre .1 .0)), (inner .element, ((inner .least, inner .most), c .before .before .before .before .before .before .before .before .before .before .before .pre .1 .1 .1)))
+    let met : FrontMet (orderOf (a .o)) (c .before .before .before .before .before .inside-of .result .count) (typeAt d (c .before .before .before .before .before .inside-of .result .at)) s (a .from .at) (c .if1 .front) =
+    ⊎-elim (λ u. subst (λ (f : Front). FrontMet _ _ _ _ _ f) (sym (u .2)) (u .1 .ensures)) (λ u. subst (λ (f : Front). FrontMet _ _ _ _ _ f) (sym (u .2)) (u .1 .ensures)) (c .if1 .came) in
+    (omega (arith, c .before .before .before .before .before .before .before .before .before .before .before .pre .0, type-deep d (a .p) (a .left) (c .before .before .before .before .before .before .before .before .before .before .before .pre .1 .0)), (inner .element, (met .within, c .before .before .before .before .before .before .before .before .before .before .before .pre .1 .1 .1 .short)))
 
-value-returns-3 : (t : ℕ) → value-lts.Need-returns-3 (value-calls t) (value-at t) value.Post
+value-returns-2 : (t : ℕ) → value-lts.Need-returns-2 (value-calls t) (value-at t) value.Post
 unfolding kindNamed
-value-returns-3 t c =
+value-returns-2 t c =
     let a = c .before .before .before .before .before .before .before .before .before .before .before .before .args in
     let d = now (a .d) in
     let s = now (a .s) in
     let kind = known _ kinds.Array (kindOf (c .before .before .before .before .before .before .before .before .before .code-at .result)) (c .before .before .before .before .before .before .before .before .kind-of .ensures) (c .before .before .before .before .enum-told2 .given .1) ∙ ap kindOf (c .before .before .before .before .before .before .before .before .before .code-at .ensures) in
     let inner = value-array d (a .p) (a .left) (c .before .before .before .before .before .before .before .before .before .before .before .before .pre .1 .0) _ (c .before .before .before .before .before .before .inside-of .ensures) kind in
-    c .array .ensures ∙ sym (ap progress (inner .walked (orderOf (a .o)) s (a .from .at)))
+    let met : FrontMet (orderOf (a .o)) (c .before .before .before .before .before .before .inside-of .result .count) (typeAt d (c .before .before .before .before .before .before .inside-of .result .at)) s (a .from .at) (c .before .if1 .front) =
+    ⊎-elim (λ u. subst (λ (f : Front). FrontMet _ _ _ _ _ f) (sym (u .2)) (u .1 .ensures)) (λ u. subst (λ (f : Front). FrontMet _ _ _ _ _ f) (sym (u .2)) (u .1 .ensures)) (c .before .if1 .came) in
+    c .array .ensures ∙ sym (met .eq) ∙ sym (ap progress (inner .walked (orderOf (a .o)) s (a .from .at)))
 
 value-sub-row : (t : ℕ) → value-lts.Need-sub-row (value-calls t) (value-at t) value.Post
 value-sub-row t c = let a = c .before .before .before .before .before .before .before .args in type-deep (now (a .d)) (a .p) (a .left) (c .before .before .before .before .before .before .before .pre .1 .0)
@@ -503,9 +499,9 @@ value-row-requires t c κs =
     let kind = is-cluster d (a .p) (c .before .before .before .before .before .before .before .pre .1 .0 .here) (c .before .before .before .before .before .before .before .pre .1 .1 .0) no-text no-array in
     (omega (arith, c .before .before .before .before .before .before .before .pre .0, type-deep d (a .p) (a .left) (c .before .before .before .before .before .before .before .pre .1 .0)), (row-inside d (a .p) (a .left) (c .before .before .before .before .before .before .before .pre .1 .0) _ (c .before .inside-of .ensures) (sym (ap hasInside kind)), c .before .before .before .before .before .before .before .pre .1 .1 .1))
 
-value-returns-4 : (t : ℕ) → value-lts.Need-returns-4 (value-calls t) (value-at t) value.Post
+value-returns-3 : (t : ℕ) → value-lts.Need-returns-3 (value-calls t) (value-at t) value.Post
 unfolding kindIs
-value-returns-4 t c =
+value-returns-3 t c =
     let a = c .before .before .before .before .before .before .before .before .args in
     let d = now (a .d) in
     let s = now (a .s) in
@@ -583,7 +579,6 @@ pub +array+row+rows+value+walk-spec : {M : Type 1} → statement M
 +array+row+rows+value+walk-spec = close μ-array μ-row μ-rows μ-value μ-walk (λ t. array-lts.spec (array-calls t)
     (array-at t)
     array.Post
-    (array-array-front-requires t)
     (array-enum-known-front t)
     (array-enum-known-front-2 t)
     (array-walk-requires t)
@@ -639,15 +634,14 @@ pub +array+row+rows+value+walk-spec : {M : Type 1} → statement M
     (value-code-at-requires-2 t)
     (value-width-requires t)
     (value-scalar-front-requires t)
-    (value-enum-known-front t)
-    (value-returns-2 t)
-    (value-enum-told-3 t)
+    (value-sub-array-front t)
+    (value-array-front-requires t)
     (value-sub-array t)
     (value-array-requires t)
-    (value-returns-3 t)
+    (value-returns-2 t)
     (value-sub-row t)
     (value-row-requires t)
-    (value-returns-4 t))
+    (value-returns-3 t))
     λ t. walk-lts.spec (walk-calls t)
     (walk-at t)
     walk.Post
