@@ -25,11 +25,12 @@ use Rattle.flattened.specs.Order.{big}
 use Rattle.flattened.specs.Token.{Token}
 use Rattle.flattened.specs.Walk.{walk, walkAll, walked}
 use Rattle.flattened.specs.inner.Types.{typeAt, typesAt}
+use Rattle.members.specs.inner.Members.{Members, topAt, placeFrom, nameFrom, Column}
+use Rattle.members.specs.inner.Joining.{pickedBytes, Copies}
 use Rattle.resolution.specs.Record.{Member, writerMembers, readerMembers, joinedBytes, recordBytes, resolved}
-use Rattle.resolution.specs.inner.Members.{Members, topAt, placeFrom, nameFrom, Column}
 use Rattle.resolution.specs.inner.Searching.{Listed, allMembers}
-use Rattle.resolution.specs.inner.Picking.{Ascends, StartsIn, pickedBytes, Plans}
-use Rattle.resolution.specs.inner.Tops.{isCluster, topCount, TopStarts, TopNames, Copies}
+use Rattle.resolution.specs.inner.Picking.{Ascends, StartsIn, Plans}
+use Rattle.resolution.specs.inner.Tops.{isCluster, topCount, TopStarts, TopNames}
 use Rattle.records.specs.inner.Ready.{Ready}
 use Rattle.records.proofs.Topmost.{top-tree, top-members, top-walk, top-writers, writers-none, names-forest}
 use Rattle.records.proofs.Gathered.{data-inside, data-order, gathered}

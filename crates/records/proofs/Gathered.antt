@@ -19,9 +19,10 @@ use Rattle.flattened.specs.Walk.{follow, walk, walkAll}
 use Rattle.flattened.specs.inner.Types.{typeAt, typesAt, RowStands}
 use Rattle.flattened.proofs.Forward.{walk-forward}
 use Rattle.flattened.proofs.Types.{RowTurn, row-turn, type-solid}
+use Rattle.members.specs.inner.Members.{placeFrom, typeFrom}
+use Rattle.members.proofs.InRow.{no-types, types-at, turn-at}
 use Rattle.resolution.specs.Record.{Member, membersFrom}
-use Rattle.resolution.specs.inner.Members.{placeFrom, typeFrom, dataFrom, memberFrom, membersFor}
-use Rattle.resolution.proofs.InRow.{no-types, types-at, turn-at}
+use Rattle.resolution.specs.inner.Data.{dataFrom, memberFrom, membersFor}
 use Rattle.resolution.proofs.Walking.{data-more}
 
 module _ (d : List ℕ) (p : ℕ) (s : List ℕ) (left : ℕ) where

@@ -30,8 +30,9 @@ use Rattle.flattened.proofs.Forward.{walk-forward}
 use Rattle.flattened.proofs.Refusals.{walk-place}
 use Rattle.flattened.proofs.Repeats.{follow-last}
 use Rattle.flattened.proofs.Types.{TypeMade, type-made, type-inside, type-solid, row-read, alone}
+use Rattle.members.specs.inner.Members.{Members, topAt, placeFrom, nameFrom, Column}
 use Rattle.resolution.specs.Record.{membersFrom, writerFields, writerMembers, readerNames, readerFields, readerMembers}
-use Rattle.resolution.specs.inner.Members.{Members, topAt, placeFrom, nameFrom, dataFrom, Column, Starts}
+use Rattle.resolution.specs.inner.Data.{dataFrom, Starts}
 use Rattle.resolution.specs.inner.Names.{AllNamed}
 use Rattle.resolution.specs.inner.Searching.{Listed}
 use Rattle.resolution.specs.inner.Picking.{Naming}

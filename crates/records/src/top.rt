@@ -8,7 +8,7 @@ use descriptor::step::Step;
 use descriptor::step::accept;
 use descriptor::step::refuse;
 use flattened::limits::DATA_LIMIT;
-use resolution::columns::list_members;
+use members::columns::list_members;
 use resolution::data::walk_members;
 use resolution::names::check_names;
 ghost use mathlib.Core.Path.{_≡_};

@@ -20,7 +20,7 @@ use Rattle.encoding.proofs.Accepted.{spells-accepted}
 use Rattle.canonical.specs.Equality.{sameTree, comparison}
 use Rattle.canonical.proofs.Lists.{bytes-of, part-slice}
 use Rattle.flattened.specs.inner.Types.{typeOf, typeAt}
-use Rattle.resolution.specs.inner.Members.{Inner}
+use Rattle.members.specs.inner.Members.{Inner}
 
 mutual
   unfolding encodeWith

@@ -11,16 +11,17 @@ use Rattle.descriptor.specs.declared.step.Step.{Step}
 use Rattle.descriptor.proofs.Steps.{impossible}
 use Rattle.canonical.specs.Equality.{sameTree}
 use Rattle.flattened.specs.inner.Types.{typeAt}
+use Rattle.members.specs.inner.Members.{Inner, topAt, placeFrom, typeFrom, rowFrom}
+use Rattle.members.specs.inner.Names.{nameOf, charsAt}
+use Rattle.members.proofs.Single.{named-at}
+use Rattle.members.proofs.Listing.{row-start, member-inner}
 use Rattle.resolution.specs.Record.{Member, matches, namesakes, searched, searchNumber, memberFound}
-use Rattle.resolution.specs.inner.Members.{Inner, topAt, placeFrom, typeFrom, rowFrom, dataFrom, memberFrom}
-use Rattle.resolution.specs.inner.Names.{nameOf, charsAt}
+use Rattle.resolution.specs.inner.Data.{dataFrom, memberFrom}
 use Rattle.resolution.specs.inner.Searching.{Listed, allMembers, bare, Seeks}
 use Rattle.resolution.specs.inner.Picking.{Called, Picks}
 use Rattle.resolution.specs.declared.Search.{Search}
 use Rattle.resolution.specs.declared.Search.the-variants.{Found}
 use Rattle.resolution.specs.declared.namesakes.Sought.{Sought}
-use Rattle.resolution.proofs.Single.{named-at}
-use Rattle.resolution.proofs.Listing.{row-start, member-inner}
 
 -- of a reader's member only the name counts
 matches-bare : (x : List ℕ) (t u : Tree) → nameOf t ≡ named x → matches t u ≡ matches (bare x) u

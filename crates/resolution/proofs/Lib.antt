@@ -1,12 +1,6 @@
-pub mod Filled
-pub mod InRow
 pub mod Walking
-pub mod Single
-pub mod Listing
-pub mod Chaining
 pub mod Named
 pub mod Apart
 pub mod Seeking
 pub mod Chosen
 pub mod Planned
-pub mod Joined

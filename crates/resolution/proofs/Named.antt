@@ -1,4 +1,4 @@
--- Names by their places: what makes two the same, and which of a reader's are at fault. Rests on the laws of a row's name.
+-- The names of the reader's members, and which of them are at fault. Rests on members' laws of names and their marks.
 use mathlib.Core.Path.{_≡_, refl, sym, ap, subst, _∙_}
 use mathlib.Core.Bool.{Bool, true, false, not, cond}
 use mathlib.Core.List.{List, [], _∷_}
@@ -8,8 +8,7 @@ use native.Mathlib.Numerals.{add-one}
 use native.Mathlib.Omega.{arith}
 use borrow.Author.Tests.{lt-ltb, le-ltb}
 use lib.Dec.{ltb}
-use lib.ListN.{length, getD, take, drop}
-use lib.Seq.{slice}
+use lib.ListN.{length, getD}
 use Rattle.descriptor.specs.Limits.{depthLimit}
 use Rattle.descriptor.specs.Outcome.{Outcome, refused, require}
 use Rattle.descriptor.specs.Tree.{Name, unnamed, named, Tree, node, Forest, cons}
@@ -18,36 +17,16 @@ use Rattle.descriptor.specs.declared.step.Step.{Step}
 use Rattle.descriptor.proofs.Steps.{impossible}
 use Rattle.flattened.specs.inner.Types.{typesAt}
 use Rattle.canonical.specs.Equality.{sameChars}
-use Rattle.canonical.proofs.Lists.{bool-same, part-slice}
-use Rattle.canonical.proofs.Same.{chars-same, chars-refl}
+use Rattle.members.specs.inner.Members.{Members, placeFrom, typeFrom, nameFrom, Column}
+use Rattle.members.specs.inner.Names.{nameOf, charsAt, namedAt, hasChars, NameFits, NamesLie}
+use Rattle.members.specs.inner.Chains.{markOf, hasMark, lastOf, Chained}
+use Rattle.members.proofs.Filled.{each-more}
+use Rattle.members.proofs.InRow.{no-types, types-at}
+use Rattle.members.proofs.Single.{named-at}
+use Rattle.members.proofs.Listing.{member-name, names-lie}
+use Rattle.members.proofs.Chaining.{chars-long, own-marked, Follows, follows-link}
 use Rattle.resolution.specs.Record.{isAmong, readerNames}
-use Rattle.resolution.specs.inner.Members.{Members, placeFrom, typeFrom, nameFrom, Column}
-use Rattle.resolution.specs.inner.Names.{nameOf, charsAt, namedAt, hasChars, NameFits, NamesLie, AllNamed, seenNames}
-use Rattle.resolution.specs.inner.Chains.{markOf, hasMark, lastOf, Chained}
-use Rattle.resolution.proofs.Filled.{each-more}
-use Rattle.resolution.proofs.InRow.{no-types, types-at}
-use Rattle.resolution.proofs.Single.{named-at}
-use Rattle.resolution.proofs.Listing.{member-name, names-lie}
-use Rattle.resolution.proofs.Chaining.{chars-long, own-marked, Follows, follows-link}
-
--- no name has no characters
-pub none-same : (a b : List ℕ) (x y : ℕ) → x ≡ 0 → false ≡ hasChars (charsAt b y) (namedAt a x)
-unfolding namedAt hasChars
-none-same a b x y e = ap (λ (z : ℕ). hasChars (charsAt b y) (namedAt a z)) (sym e)
-
--- the same parts are the same characters
-pub parts-same : (a b : List ℕ) (x y first second : ℕ) (r : Bool) → 0 < x → first ≡ x + getD a (x - 1) 0 → second ≡ y + getD b (y - 1) 0
-    → (r ≡ true → take (second - y) (drop y b) ≡ take (first - x) (drop x a)) → (take (second - y) (drop y b) ≡ take (first - x) (drop x a) → r ≡ true)
-    → r ≡ hasChars (charsAt b y) (namedAt a x)
-unfolding hasChars charsAt
-parts-same a b x y first second r some ef es holds back =
-    let ex : take (first - x) (drop x a) ≡ slice x (x + getD a (x - 1) 0) a = part-slice x first a ∙ ap (λ (n : ℕ). slice x n a) ef in
-    let ey : take (second - y) (drop y b) ≡ slice y (y + getD b (y - 1) 0) b = part-slice y second b ∙ ap (λ (n : ℕ). slice y n b) es in
-    let u = charsAt a x in
-    let v = charsAt b y in
-    bool-same r (sameChars v u) (λ e. ap (λ (l : List ℕ). sameChars v l) (sym (sym ey ∙ holds e ∙ ex)) ∙ chars-refl v)
-    (λ e. back (ey ∙ chars-same v u e ∙ sym ex))
-    ∙ ap (hasChars v) (sym (named-at a x some))
+use Rattle.resolution.specs.inner.Names.{AllNamed, seenNames}
 
 -- a name is among those before where one of the members before has it
 among-last : (d names x : List ℕ) (j : ℕ) → ((i : ℕ) → i < j → 0 < getD names i 0)

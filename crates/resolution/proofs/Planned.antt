@@ -16,23 +16,17 @@ use Rattle.descriptor.specs.inner.Steps.{readStep}
 use Rattle.descriptor.specs.declared.step.Step.{Step}
 use Rattle.descriptor.proofs.Steps.{impossible}
 use Rattle.flattened.specs.inner.Types.{typeAt, typesAt}
+use Rattle.members.specs.inner.Members.{Inner, topAt, placeFrom, typeFrom, nameFrom, Column}
+use Rattle.members.specs.inner.Names.{nameOf, namedAt, NameFits}
+use Rattle.members.specs.inner.Joining.{pickedBytes}
+use Rattle.members.proofs.Filled.{each-more}
+use Rattle.members.proofs.InRow.{no-types, types-at}
+use Rattle.members.proofs.Listing.{member-inner, member-name, member-name-fits}
+use Rattle.members.proofs.Joined.{startBytes, picked-more}
 use Rattle.resolution.specs.Record.{Member, namesakes, memberBytes, joinedBytes}
-use Rattle.resolution.specs.inner.Members.{Inner, topAt, placeFrom, typeFrom, nameFrom, dataFrom, Column}
-use Rattle.resolution.specs.inner.Names.{nameOf, namedAt, NameFits}
+use Rattle.resolution.specs.inner.Data.{dataFrom}
 use Rattle.resolution.specs.inner.Searching.{Listed, allMembers}
-use Rattle.resolution.specs.inner.Picking.{Called, Picks, Naming, PickedWithin, Ascends, StartsIn, pickedBytes, Plans}
-use Rattle.resolution.proofs.Filled.{each-more}
-use Rattle.resolution.proofs.InRow.{no-types, types-at}
-use Rattle.resolution.proofs.Listing.{member-inner, member-name, member-name-fits}
-
--- the bytes of member i, by the column of starts
-abbrev pub startBytes : List ℕ → List ℕ → ℕ → List ℕ
-startBytes s starts i = slice (getD starts i 0) (getD starts (i + 1) 0) s
-
--- one more member picked
-pub picked-more : (s starts picks : List ℕ) (j : ℕ) → pickedBytes s starts picks (j + 1) ≡ pickedBytes s starts picks j ++ startBytes s starts (getD picks j 0)
-unfolding pickedBytes
-picked-more s starts picks j = ap (pickedBytes s starts picks) (add-one j)
+use Rattle.resolution.specs.inner.Picking.{Called, Picks, Naming, PickedWithin, Ascends, StartsIn, Plans}
 
 -- those before do not change
 picked-set : (s starts picks : List ℕ) (j i m : ℕ) → m ≤ j → pickedBytes s starts (set picks j i) m ≡ pickedBytes s starts picks m

@@ -9,14 +9,15 @@ use Rattle.descriptor.specs.Tree.{unnamed, named, Tree, node}
 use Rattle.descriptor.specs.Table.{rowOf}
 use Rattle.descriptor.specs.declared.answer.Row.{Row}
 use Rattle.flattened.specs.inner.Types.{typeAt}
+use Rattle.members.specs.inner.Members.{Inner, topAt, placeFrom, typeFrom}
+use Rattle.members.specs.inner.Names.{nameOf, namedAt, hasChars, NamesLie}
+use Rattle.members.specs.inner.Chains.{markOf, lastOf, Chained}
+use Rattle.members.proofs.Listing.{member-inner, member-name, names-lie}
+use Rattle.members.proofs.Chaining.{same-mark, last-most, last-is, Follows, follows-head, follows-link}
 use Rattle.resolution.specs.Record.{Member, matches, namesakes, searched}
-use Rattle.resolution.specs.inner.Members.{Inner, topAt, placeFrom, typeFrom, memberFrom, membersFor}
-use Rattle.resolution.specs.inner.Names.{nameOf, namedAt, hasChars, NamesLie}
-use Rattle.resolution.specs.inner.Chains.{markOf, lastOf, Chained}
+use Rattle.resolution.specs.inner.Data.{memberFrom, membersFor}
 use Rattle.resolution.specs.inner.Searching.{Listed, allMembers, bare, Seeks}
 use Rattle.resolution.specs.declared.Search.the-variants.{Missing, Doubled, Found}
-use Rattle.resolution.proofs.Listing.{member-inner, member-name, names-lie}
-use Rattle.resolution.proofs.Chaining.{same-mark, last-most, last-is, Follows, follows-head, follows-link}
 
 -- a member of the name x
 bare-matches : (x : List ℕ) (u : Tree) → matches (bare x) u ≡ hasChars x (nameOf u)

@@ -25,9 +25,10 @@ use Rattle.flattened.specs.declared.progress.Progress.the-variants.{Walked, Ref
 use Rattle.flattened.proofs.Forward.{walk-forward}
 use Rattle.flattened.proofs.Progresses.{progress-reads, progress-refused}
 use Rattle.flattened.proofs.Types.{type-solid}
-use Rattle.resolution.specs.inner.Members.{Members, placeFrom, typeFrom, dataFrom, Column, Starts}
-use Rattle.resolution.proofs.Filled.{column-none, column-more}
-use Rattle.resolution.proofs.InRow.{no-types, place-more, turn-at, types-at}
+use Rattle.members.specs.inner.Members.{Members, placeFrom, typeFrom, Column}
+use Rattle.members.proofs.Filled.{column-none, column-more}
+use Rattle.members.proofs.InRow.{no-types, place-more, turn-at, types-at}
+use Rattle.resolution.specs.inner.Data.{dataFrom, Starts}
 
 -- the data of the next one starts where this one's ends
 pub data-more : (d : List ℕ) (p : ℕ) (s : List ℕ) (i : ℕ) → dataFrom d p s (i + 1) ≡ nextOf (walk big (typeFrom d p i) s (dataFrom d p s i))

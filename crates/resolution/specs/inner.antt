@@ -1,6 +1,5 @@
-pub mod Members
+pub mod Data
 pub mod Names
-pub mod Chains
 pub mod Searching
 pub mod Picking
 pub mod Tops

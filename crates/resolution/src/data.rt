@@ -19,7 +19,8 @@ ghost use Rattle.flattened.specs.Order.{big};
 ghost use Rattle.flattened.specs.Walk.{walk, walkAll};
 ghost use Rattle.flattened.specs.inner.Progress.{progress};
 ghost use Rattle.flattened.specs.inner.Types.{typeAt, typesAt, TypeStands, DataAt};
-ghost use Rattle.resolution.specs.inner.Members.{Members, dataFrom, Starts};
+ghost use Rattle.members.specs.inner.Members.{Members};
+ghost use Rattle.resolution.specs.inner.Data.{dataFrom, Starts};
 
 // The walk of the type at p. A number or flag is passed with no call for what stands inside it.
 fn walk_member(d: &[u8], p: usize, s: &[u8], from: Cursor) -> Progress

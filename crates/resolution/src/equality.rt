@@ -4,7 +4,7 @@ use descriptor::header::size_at;
 ghost use mathlib.Core.Path.{_≡_};
 ghost use Rattle.canonical.specs.Equality.{sameTree};
 ghost use Rattle.flattened.specs.inner.Types.{typeAt};
-ghost use Rattle.resolution.specs.inner.Members.{Inner};
+ghost use Rattle.members.specs.inner.Members.{Inner};
 
 // Whether the descriptors at q of r and at p of w are equal, their names too. Each is compared as a descriptor of its own.
 pub fn same_type(r: &[u8], q: usize, w: &[u8], p: usize) -> bool

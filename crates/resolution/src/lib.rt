@@ -1,13 +1,9 @@
-// What a record in a reader's shape is made of: the members by name and type, and their bytes.
-pub mod chains;
-pub mod columns;
+// What a record in a reader's shape is made of: the reader's names, the rig's data, and the rig's members by name and type.
 pub mod data;
 pub mod equality;
-pub mod joining;
 pub mod names;
 pub mod namesakes;
 pub mod picking;
-pub mod rows;
 
 use descriptor::answer::Row;
 

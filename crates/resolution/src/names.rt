@@ -1,32 +1,17 @@
-// Names by their places: "Names match by bytes".
-use super::chains::chain;
-use super::chains::last_namesake;
-use super::columns::wide;
+// The names of the reader's members.
 use descriptor::step::Step;
 use descriptor::step::accept;
 use descriptor::step::refuse;
+use members::chains::chain;
+use members::chains::last_namesake;
+use members::columns::wide;
 ghost use mathlib.Core.Path.{_≡_};
 ghost use mathlib.Core.List.{[]};
-ghost use Prim.Native.Nat.{_<_};
 ghost use Rattle.descriptor.specs.inner.Steps.{counted};
 ghost use Rattle.flattened.specs.inner.Types.{typesAt};
+ghost use Rattle.members.specs.inner.Members.{Members, topAt, nameFrom, Column};
 ghost use Rattle.resolution.specs.Record.{readerNames};
-ghost use Rattle.resolution.specs.inner.Members.{Members, topAt, nameFrom, Column};
-ghost use Rattle.resolution.specs.inner.Names.{NameFits, AllNamed, charsAt, namedAt, hasChars};
-
-// Whether the name at x of a is the one at y of b: the lengths first, then the characters. Where x is 0 there is no name.
-pub fn same_name(a: &[u8], x: usize, b: &[u8], y: usize) -> bool
-    requires { ⌜ NameFits (now a) x ⌝ }
-    requires { ⌜ (0 < y) × NameFits (now b) y ⌝ }
-    ensures { λ r. ⌜ r ≡ hasChars (charsAt (now (b .entry)) y) (namedAt (now (a .entry)) x) ⌝ }
-{
-    if x == 0 {
-        return false;
-    }
-    let first = x + number::endian::wide(a[x - 1]);
-    let second = y + number::endian::wide(b[y - 1]);
-    check::same(&b[y..second], &a[x..first])
-}
+ghost use Rattle.resolution.specs.inner.Names.{AllNamed};
 
 // The names of the k members of d: 40 where one is "missing, empty or an earlier member's".
 pub fn check_names(d: &[u8], k: usize, names: &[u16; 256]) -> Step

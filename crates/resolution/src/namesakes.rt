@@ -1,14 +1,14 @@
 // The search for a name among the rig's members.
 use super::Search;
-use super::chains::last_namesake;
-use super::chains::mark;
-use super::columns::wide;
-use super::rows::member_row;
+use members::chains::last_namesake;
+use members::chains::mark;
+use members::columns::wide;
+use members::rows::member_row;
 ghost use mathlib.Core.Path.{_≡_};
 ghost use Prim.Native.Nat.{_<_};
+ghost use Rattle.members.specs.inner.Names.{NameFits, charsAt};
+ghost use Rattle.members.specs.inner.Chains.{Chained};
 ghost use Rattle.resolution.specs.Record.{searchNumber};
-ghost use Rattle.resolution.specs.inner.Names.{NameFits, charsAt};
-ghost use Rattle.resolution.specs.inner.Chains.{Chained};
 ghost use Rattle.resolution.specs.inner.Searching.{Listed, Seeks};
 
 // What a search finds, and the number of the member where it finds one.

@@ -1,18 +1,18 @@
 // The rig's members that a reader's members are read from.
 use super::Search;
-use super::chains::chain;
-use super::columns::position;
-use super::columns::wide;
 use super::equality::same_type;
 use super::namesakes::search;
 use super::namesakes::search_number;
 use descriptor::step::Step;
 use descriptor::step::accept;
 use descriptor::step::refuse;
+use members::chains::chain;
+use members::columns::position;
+use members::columns::wide;
 ghost use mathlib.Core.Path.{_≡_};
 ghost use lib.ListN.{length};
 ghost use Rattle.flattened.specs.inner.Types.{typeAt};
-ghost use Rattle.resolution.specs.inner.Chains.{Chained};
+ghost use Rattle.members.specs.inner.Chains.{Chained};
 ghost use Rattle.resolution.specs.inner.Searching.{Listed};
 ghost use Rattle.resolution.specs.inner.Picking.{Called, Picks, Naming, Ascends, Plans};
 

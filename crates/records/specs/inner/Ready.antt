@@ -9,8 +9,9 @@ use Rattle.flattened.specs.Order.{big}
 use Rattle.flattened.specs.Token.{Token}
 use Rattle.flattened.specs.Walk.{walked}
 use Rattle.flattened.specs.inner.Types.{typeAt, typesAt}
+use Rattle.members.specs.inner.Members.{topAt, Column}
 use Rattle.resolution.specs.Record.{readerMembers}
-use Rattle.resolution.specs.inner.Members.{topAt, dataFrom, Column}
+use Rattle.resolution.specs.inner.Data.{dataFrom}
 use Rattle.resolution.specs.inner.Searching.{Listed}
 use Rattle.resolution.specs.inner.Picking.{Naming}
 use Rattle.resolution.specs.inner.Tops.{isCluster, topCount}

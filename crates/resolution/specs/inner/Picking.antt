@@ -1,18 +1,19 @@
--- The rig's members that a reader's are read from, as the code picks them: by number, in a column; and their bytes joined.
+-- The rig's members that a reader's are read from, as the code picks them: by number, in a column.
 use mathlib.Core.Path.{_≡_}
 use mathlib.Core.Bool.{true, false}
-use mathlib.Core.List.{List, [], _++_}
-use Prim.Native.Nat.{ℕ, zero, suc, _+_, _*_, _≤_, _<_}
+use mathlib.Core.List.{List}
+use Prim.Native.Nat.{ℕ, suc, _+_, _*_, _≤_, _<_}
 use lib.ListN.{length, getD}
-use lib.Seq.{slice}
 use Rattle.descriptor.specs.Limits.{dataLimit}
 use Rattle.descriptor.specs.Outcome.{refused, read}
 use Rattle.descriptor.specs.Tree.{Tree}
 use Rattle.descriptor.specs.declared.step.Step.{Step}
 use Rattle.flattened.specs.inner.Types.{typeAt, typesAt}
+use Rattle.members.specs.inner.Members.{Inner, topAt, Column}
+use Rattle.members.specs.inner.Names.{nameOf, namedAt, NameFits}
+use Rattle.members.specs.inner.Joining.{pickedBytes}
 use Rattle.resolution.specs.Record.{namesakes, memberFound, joinedBytes}
-use Rattle.resolution.specs.inner.Members.{Inner, topAt, dataFrom, memberFrom, Column}
-use Rattle.resolution.specs.inner.Names.{nameOf, namedAt, NameFits}
+use Rattle.resolution.specs.inner.Data.{dataFrom, memberFrom}
 use Rattle.resolution.specs.inner.Searching.{allMembers}
 
 -- the descriptor at q of r has the name at y
@@ -46,12 +47,6 @@ pub record Ascends (k : ℕ) (starts : List ℕ) : Type 0 where
 -- and lie in the data s
 pub record StartsIn (k : ℕ) (starts s : List ℕ) : Type 0 where
   pub at : (i : ℕ) → i ≤ k → getD starts i 0 ≤ length s
-
--- the bytes of the first n members picked, joined
-unfoldable pub pickedBytes : List ℕ → List ℕ → List ℕ → ℕ → List ℕ
-pickedBytes s starts picks zero = []
-pickedBytes s starts picks (suc j) =
-    pickedBytes s starts picks j ++ slice (getD starts (getD picks j 0) 0) (getD starts (getD picks j 0 + 1) 0) s
 
 -- what the reader's n members are read from: the first at fault is the refusal; else the members picked, and how long their bytes are
 pub record Plans (w : List ℕ) (k : ℕ) (r : List ℕ) (n : ℕ) (starts picks : List ℕ) (x : Step) : Type 0 where

@@ -4,8 +4,9 @@ use mathlib.Core.List.{List, [], _∷_}
 use Prim.Native.Nat.{ℕ, _<_}
 use Rattle.descriptor.specs.Tree.{empty, named, Tree, node, nil}
 use Rattle.descriptor.specs.declared.answer.Row.{Row}
+use Rattle.members.specs.inner.Members.{Members, topAt, placeFrom, nameFrom, Column}
 use Rattle.resolution.specs.Record.{Member, namesakes, searched}
-use Rattle.resolution.specs.inner.Members.{Members, topAt, placeFrom, nameFrom, memberFrom, membersFor, Column}
+use Rattle.resolution.specs.inner.Data.{memberFrom, membersFor}
 use Rattle.resolution.specs.declared.namesakes.Sought.{Sought}
 use Rattle.resolution.specs.declared.Search.the-variants.{Found}
 

@@ -2,8 +2,7 @@
 use mathlib.Core.Path.{_≡_}
 use mathlib.Core.Bool.{Bool, true, false}
 use mathlib.Core.List.{List}
-use Prim.Native.Nat.{ℕ, suc, _+_, _≤_, _<_}
-use lib.ListN.{length, getD}
+use Prim.Native.Nat.{ℕ, suc, _≤_}
 use Rattle.descriptor.specs.Limits.{descriptorLimit, dataLimit}
 use Rattle.descriptor.specs.Tree.{Fields, empty, items, pairs, text, dimensions, members}
 use Rattle.descriptor.specs.inner.Standing.{standing, fieldsOf, insideOf}
@@ -13,7 +12,8 @@ use Rattle.descriptor.specs.declared.step.Step.{Step}
 use Rattle.flattened.specs.Order.{big}
 use Rattle.flattened.specs.Walk.{walk, walkAll}
 use Rattle.flattened.specs.inner.Types.{typeAt, typesAt}
-use Rattle.resolution.specs.inner.Members.{Members, topAt, dataFrom, Column}
+use Rattle.members.specs.inner.Members.{Members, topAt, Column}
+use Rattle.resolution.specs.inner.Data.{dataFrom}
 use Rattle.resolution.specs.inner.Searching.{Listed}
 use Rattle.resolution.specs.inner.Picking.{Naming}
 
@@ -52,10 +52,3 @@ pub record TopNames (d places names : List ℕ) (r : Step) : Type 0 where
   pub listed : r .ok ≡ true → Listed d (r .value) places names
   pub named : r .ok ≡ true → Naming (r .value) names
   pub place : r .ok ≡ false → r .place ≤ descriptorLimit
-
--- the members picked are there, and lie in the data s
-pub record Copies (s starts picks : List ℕ) (n : ℕ) : Type 0 where
-  pub few : n ≤ 256
-  pub index : (j : ℕ) → j < n → getD picks j 0 < 256
-  pub order : (j : ℕ) → j < n → getD starts (getD picks j 0) 0 ≤ getD starts (getD picks j 0 + 1) 0
-  pub inside : (j : ℕ) → j < n → getD starts (getD picks j 0 + 1) 0 ≤ length s

@@ -6,7 +6,7 @@ use borrow.Author.Needs.{needs}
 use borrow.Author.Tests.{not-true, not-false}
 use Rattle.descriptor.specs.Output.{Written}
 use Rattle.descriptor.specs.declared.inside.Inside.{Inside}
-use Rattle.resolution.specs.inner.Members.{Members}
+use Rattle.members.specs.inner.Members.{Members}
 use Rattle.records.proofs.Topmost.{top-here}
 use Rattle.records.proofs.Answering.{ready-members, ready-ascends, ready-lost, ready-place, ready-long, ready-total, ready-small, ready-copies, ready-written, plans-top, listed-top, ascends-top}
 use Rattle.records.proofs.reading.read_members.Statement.{statement}

@@ -6,7 +6,7 @@ use borrow.Author.Needs.{needs}
 use borrow.Author.Tests.{not-true, not-false}
 use Rattle.descriptor.specs.declared.inside.Inside.{Inside}
 use Rattle.descriptor.specs.declared.step.Step.{Step}
-use Rattle.resolution.specs.inner.Members.{Members, topAt}
+use Rattle.members.specs.inner.Members.{Members, topAt}
 use Rattle.records.proofs.Topmost.{top-here, top-members, names-none, names-lost, names-got, names-column, names-judged, names-counted, refused-names, names-listed, top-listed}
 use Rattle.records.proofs.top.read_names.Statement.{statement}
 use Rattle.records.proofs.top.read_names.Tie as tie

@@ -4,8 +4,8 @@ use Prim.Native.Nat.{_-_}
 use native.Mathlib.Omega.{arith}
 use denote.Ref.{now}
 use borrow.Author.Needs.{needs}
-use Rattle.resolution.specs.inner.Members.{topAt}
-use Rattle.resolution.proofs.Chaining.{fresh-chains}
+use Rattle.members.specs.inner.Members.{topAt}
+use Rattle.members.proofs.Chaining.{fresh-chains}
 use Rattle.resolution.proofs.Named.{NameLoop, name-begin, names-through, name-lies, name-missing, name-empty, name-follows, name-earlier, name-again, name-done, name-all, refused-named}
 use Rattle.resolution.proofs.names.check_names.Statement.{statement}
 use Rattle.resolution.proofs.names.check_names.Tie as tie

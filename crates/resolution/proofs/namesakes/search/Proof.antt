@@ -2,7 +2,7 @@
 use native.Mathlib.Omega.{arith}
 use denote.Ref.{now}
 use borrow.Author.Needs.{needs}
-use Rattle.resolution.specs.inner.Names.{charsAt}
+use Rattle.members.specs.inner.Names.{charsAt}
 use Rattle.resolution.proofs.Seeking.{listed-lie, seek-head, seek-missing, seek-within, seek-link, seek-doubled, seek-inner, seek-found}
 use Rattle.resolution.proofs.namesakes.search.Statement.{statement}
 use Rattle.resolution.proofs.namesakes.search.Tie as tie

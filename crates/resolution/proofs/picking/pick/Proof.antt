@@ -5,7 +5,7 @@ use denote.Ref.{now}
 use borrow.Author.Needs.{needs}
 use borrow.Author.Tests.{not-true, not-false}
 use Rattle.flattened.specs.inner.Types.{typeAt}
-use Rattle.resolution.specs.inner.Names.{charsAt}
+use Rattle.members.specs.inner.Names.{charsAt}
 use Rattle.resolution.proofs.Chosen.{pick-none, pick-inner, pick-other, pick-same, called-so}
 use Rattle.resolution.proofs.picking.pick.Statement.{statement}
 use Rattle.resolution.proofs.picking.pick.Tie as tie

@@ -4,7 +4,7 @@ use native.Mathlib.Omega.{arith}
 use denote.Ref.{now}
 use borrow.Author.Needs.{needs}
 use borrow.Author.Tests.{not-true, not-false}
-use Rattle.resolution.proofs.Chaining.{fresh-chains}
+use Rattle.members.proofs.Chaining.{fresh-chains}
 use Rattle.resolution.proofs.Seeking.{listed-lie}
 use Rattle.resolution.proofs.Planned.{PlanLoop, plan-begin, plan-called, plan-lost, plan-inside, plan-order, plan-short, plan-again, plan-done}
 use Rattle.resolution.proofs.picking.pick_all.Statement.{statement}

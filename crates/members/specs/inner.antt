@@ -1,0 +1,4 @@
+pub mod Members
+pub mod Names
+pub mod Chains
+pub mod Joining
