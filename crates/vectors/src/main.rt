@@ -2,28 +2,29 @@
 // entries. A line for each: its name; number, input and place; the rows, as (code start size depth count name_place name_length), the
 // code hexadecimal and the others decimal; and of its normal form, whether it has the same bytes and compares equal. Then data, under a
 // descriptor: its name, number, input and place. Then records in a reader's shape.
+mod cases;
 mod data;
 mod numbers;
 mod records;
 mod show;
 mod sources;
 
-use show::show;
+use cases::Cases;
+use cases::show_cases;
 
 // Document 01, "Checked by hand": the rows not marked P. The first stands in 002 and 004 too.
 fn hand_checked() {
-    show(
-        b"m/s, double (01, 002, 004)",
-        b"\x00\x0E\x00\x1A\x00\x02\x00\x02\xFF\xFF\x00\x03\x00\x01",
+    show_cases(
+        Cases::Descriptors,
+        b"m/s, double (01, 002, 004)|\x00\x0E\x00\x1A\x00\x02\x00\x02\xFF\xFF\x00\x03\x00\x01|\
+        half a name (01)|\x00\x06\x00\x03\x02\x61|\
+        empty name (01)|\x00\x06\x00\x03\x00\x00|",
     );
-    show(b"half a name (01)", b"\x00\x06\x00\x03\x02\x61");
-    show(b"empty name (01)", b"\x00\x06\x00\x03\x00\x00");
 }
 
 fn main() {
     hand_checked();
-    numbers::integers();
-    numbers::others();
+    numbers::numbers();
     sources::nested();
     sources::listed();
     data::worked();

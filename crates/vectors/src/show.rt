@@ -1,4 +1,4 @@
-// What is printed of a descriptor: one line, made of the three public entries' answers.
+// What is printed of a descriptor, made of the three public entries' answers.
 use descriptor::answer::Answer;
 use descriptor::answer::Checked;
 use descriptor::answer::Row;
@@ -74,10 +74,8 @@ fn show_front(d: &[u8], out: &[u8], place: u32) {
     show_normal(d, &out[..n]);
 }
 
-// The line of the descriptor d.
-pub fn show(name: &[u8], d: &[u8]) {
-    say(name);
-    say(b":");
+// What is said of the descriptor d.
+pub fn show(d: &[u8]) {
     let c = kerbcanopy::kc_check_descriptor(d);
     show_answer(c.answer);
     show_rows(c);
@@ -88,5 +86,4 @@ pub fn show(name: &[u8], d: &[u8]) {
     } else {
         say(b"; normal form: none");
     }
-    say(b"\n");
 }

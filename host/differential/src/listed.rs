@@ -1,14 +1,11 @@
 //! Runs the seeds of a list: the gate's, or one that is named.
 
 use std::ops::Range;
-use std::sync::atomic::{AtomicUsize, Ordering};
-use std::sync::mpsc::{Sender, channel};
-use std::thread;
 
-use crate::Checks;
 use crate::case::Limits;
-use crate::seed::{Outcome, Seed, threads};
+use crate::seed::{Outcome, Seed};
 use crate::tally::Tally;
+use crate::{Checks, parts};
 
 /// What of document 01 was met less often than this in the whole gate run was met
 /// too seldom.
@@ -30,27 +27,24 @@ pub enum Met {
     Everything,
 }
 
-/// Runs the seeds, as many at a time as there are cores. Each is a check, and so
-/// is what they met together where that matters.
+/// Runs the seeds, one after the other on all cores. Each is a check, and so is what
+/// they met together where that matters.
 pub fn run(listed: &Listed, limits: &Limits, exact: bool) -> Checks {
     let (mut passed, mut failed) = (0, 0);
     let mut all = Tally::new();
-    let next = AtomicUsize::new(0);
-    let (sender, receiver) = channel();
-    thread::scope(|scope| {
-        for _ in 0..threads().min(listed.seeds.len()) {
-            let (sender, next) = (sender.clone(), &next);
-            scope.spawn(move || work(listed, limits, exact, next, &sender));
+    for &seed in &listed.seeds {
+        let seed = Seed {
+            seed,
+            limits,
+            exact,
+        };
+        let outcome = parts::run(seed, listed.cases.clone());
+        all.add(&outcome.tally);
+        match passes(&outcome, listed.met) {
+            true => passed += 1,
+            false => failed += 1,
         }
-        drop(sender);
-        for outcome in receiver {
-            all.add(&outcome.tally);
-            match passes(&outcome, listed.met) {
-                true => passed += 1,
-                false => failed += 1,
-            }
-        }
-    });
+    }
     all.print();
     if listed.met == Met::Everything {
         match often_enough(&all) {
@@ -59,21 +53,6 @@ pub fn run(listed: &Listed, limits: &Limits, exact: bool) -> Checks {
         }
     }
     Checks { passed, failed }
-}
-
-/// Takes one seed after the other until none is left.
-fn work(listed: &Listed, limits: &Limits, exact: bool, next: &AtomicUsize, done: &Sender<Outcome>) {
-    while let Some(&seed) = listed.seeds.get(next.fetch_add(1, Ordering::Relaxed)) {
-        let seed = Seed {
-            seed,
-            limits,
-            exact,
-        };
-        let outcome = seed.run(listed.cases.clone(), || true);
-        if done.send(outcome).is_err() {
-            return;
-        }
-    }
 }
 
 /// Prints how a seed ended. It passes if there is no difference and every number

@@ -15,6 +15,7 @@ mod lent;
 mod listed;
 mod options;
 mod output;
+mod parts;
 mod proved;
 mod random;
 mod record;

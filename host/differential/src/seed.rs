@@ -94,6 +94,14 @@ impl Seed<'_> {
 }
 
 impl Outcome {
+    /// Adds what came of the cases that follow, unless one up to here differs.
+    pub fn add(&mut self, next: Outcome) {
+        if self.found.is_none() {
+            self.tally.add(&next.tally);
+            self.found = next.found;
+        }
+    }
+
     /// Prints the difference, if there is one, and how to see it again.
     pub fn print_difference(&self) {
         if let Some(found) = &self.found {
