@@ -1,8 +1,9 @@
--- What the loop over numbers of one width keeps: with those that are left, the output becomes what is promised. Over the width.
+-- What the loop over numbers of one width keeps: with those that are left, the output becomes what is promised; and a run in two parts. Over
+-- the width.
 use mathlib.Core.Path.{_≡_, refl, sym, ap, ap₂, subst, _∙_}
 use mathlib.Core.List.{List, reverse}
-use Prim.Native.Nat.{ℕ, suc, _+_, _-_, _*_, _<_, _≤_}
-use native.Mathlib.Nat.{sub-zero, suc-mul, add-mul}
+use Prim.Native.Nat.{ℕ, zero, suc, _+_, _-_, _*_, _<_, _≤_}
+use native.Mathlib.Nat.{sub-zero, zero-add, suc-add, suc-mul, add-mul}
 use native.Mathlib.Omega.{arith}
 use lib.ListN.{length, take, drop}
 use lib.Seq.{length-sets}
@@ -57,3 +58,15 @@ module _ (w : ℕ) (s before : List ℕ) (n from : ℕ) where
       → RunLoop after (i + 4)
   run-four out i loop more one two three after e f g h =
       run-more three i 3 (run-more two i 2 (run-more one i 1 (run-next out i loop (omega arith) one e) (omega arith) two f) (omega arith) three g) more after h
+
+-- m + n numbers in a row
+pub run-split : (s : List ℕ) (w m n at : ℕ) (out : List ℕ) → turnedRun w s (m + n) at out ≡ turnedRun w s n (at + m * w) (turnedRun w s m at out)
+unfolding turnedRun
+run-split s w zero n at out =
+    let here : at ≡ at + 0 * w = omega arith in
+    ap₂ (λ (k p : ℕ). turnedRun w s k p out) (zero-add n) here
+run-split s w (suc m) n at out =
+    let next : at + w + m * w ≡ at + suc m * w = omega (arith, suc-mul m w) in
+    ap (λ (k : ℕ). turnedRun w s k at out) (suc-add m n)
+    ∙ run-split s w m n (at + w) (turnedAt w s at out)
+    ∙ ap (λ (p : ℕ). turnedRun w s n p (turnedRun w s m (at + w) (turnedAt w s at out))) next

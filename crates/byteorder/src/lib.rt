@@ -1,5 +1,4 @@
-// Numbers written in the other byte order: one, a row of them, those at one place of every element of an array, and those of scalars.
-pub mod columns;
+// Numbers written in the other byte order: one, a row of them, and those of scalars.
 pub mod numbers;
 pub mod runs;
 pub mod scalars;

@@ -17,3 +17,4 @@ pub mod Cases
 pub mod ExtentTurns
 pub mod Scalars
 pub mod Named
+pub mod KindWalks

@@ -104,7 +104,7 @@ pub extern "C" fn kc_to_little_endian(descriptor: &[u8], data: &[u8], out: &mut 
     ensures answer { λ r. ⌜ r ≡ toLittleEndian (now (descriptor .entry)) (now («data» .entry)) (now (out .entry)) .answer ⌝ }
     ensures wrote { λ _. ⌜ now (out .exit) ≡ toLittleEndian (now (descriptor .entry)) (now («data» .entry)) (now (out .entry)) .out ⌝ }
 {
-    turning::little::to_little_endian(descriptor, data, out)
+    little::to_little_endian(descriptor, data, out)
 }
 
 // Writes the data whose little-endian form `data` is to the front of `out`. Its refusals are those of the data check with lengths, sizes
@@ -114,7 +114,7 @@ pub extern "C" fn kc_from_little_endian(descriptor: &[u8], data: &[u8], out: &mu
     ensures answer { λ r. ⌜ r ≡ fromLittleEndian (now (descriptor .entry)) (now («data» .entry)) (now (out .entry)) .answer ⌝ }
     ensures wrote { λ _. ⌜ now (out .exit) ≡ fromLittleEndian (now (descriptor .entry)) (now («data» .entry)) (now (out .entry)) .out ⌝ }
 {
-    turning::little::from_little_endian(descriptor, data, out)
+    little::from_little_endian(descriptor, data, out)
 }
 
 // Reads the rig's data in the reader's shape: writes "the reader's members' bytes joined, in the reader's order" to the front of `out`, and

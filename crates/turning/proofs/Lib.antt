@@ -2,9 +2,4 @@ pub mod Tokens
 pub mod Remaining
 pub mod Pieces
 pub mod Parts
-pub mod Elements
-pub mod Blocks
-pub mod Numbers
-pub mod Even
-pub mod Whole
-pub mod Answering
+pub mod EvenWalks

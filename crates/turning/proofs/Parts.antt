@@ -30,7 +30,8 @@ use Rattle.flattened.proofs.Cases.{walk-number}
 use Rattle.flattened.proofs.Forward.{walk-forward, sizes-end}
 use Rattle.flattened.proofs.Repeats.{repeat-one}
 use Rattle.flattened.proofs.Types.{RowTurn, row-turn}
-use Rattle.byteorder.specs.inner.Turning.{turnedRun, tokensOf, Room, Turnable, Turned, SizesTurned}
+use Rattle.byteorder.specs.inner.Turning.{turnedRun, Room}
+use Rattle.turning.specs.inner.Tokens.{tokensOf, Turnable, Turned, SizesTurned}
 use Rattle.byteorder.specs.Reversal.{numberCount, numberWidth}
 use Rattle.turning.proofs.Tokens.{sizes-token}
 use Rattle.turning.proofs.Remaining.{Remains, remains-all, first-turnable, remains-next, remains-none}

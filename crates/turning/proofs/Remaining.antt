@@ -12,7 +12,7 @@ use Rattle.descriptor.specs.inner.Standing.{isRead, nextOf}
 use Rattle.descriptor.proofs.Steps.{impossible}
 use Rattle.flattened.specs.Token.{Token}
 use Rattle.flattened.specs.Walk.{follow, repeat}
-use Rattle.byteorder.specs.inner.Turning.{turnedTokens, tokensOf, Turnable, Turned}
+use Rattle.turning.specs.inner.Tokens.{turnedTokens, tokensOf, Turnable, Turned}
 use Rattle.turning.proofs.Tokens.{tokens-append, tokens-length}
 
 -- the walk `rest` from `at` on is left of the walk `whole`

@@ -13,7 +13,8 @@ use Rattle.flattened.specs.Token.{Token, scalar, string, sizes}
 use Rattle.flattened.specs.Walk.{token}
 use Rattle.number.proofs.Writing.{sets-append}
 use Rattle.byteorder.specs.Reversal.{reverseEach, reverseToken, numberCount, numberWidth}
-use Rattle.byteorder.specs.inner.Turning.{turnedAt, turnedRun, turnedTokens}
+use Rattle.byteorder.specs.inner.Turning.{turnedAt, turnedRun}
+use Rattle.turning.specs.inner.Tokens.{turnedTokens}
 use Rattle.byteorder.proofs.Widths.{numbers-all}
 
 -- m elements from `at` on
@@ -24,18 +25,6 @@ slice-part (suc at) m [] =
 slice-part (suc at) m (x ∷ s) = ap (λ (k : ℕ). drop (suc at) (take k (x ∷ s))) (suc-add at m) ∙ slice-part at m s
 
 module _ (s : List ℕ) where
-  -- m + n numbers in a row
-  pub run-split : (w m n at : ℕ) (out : List ℕ) → turnedRun w s (m + n) at out ≡ turnedRun w s n (at + m * w) (turnedRun w s m at out)
-  unfolding turnedRun
-  run-split w zero n at out =
-      let here : at ≡ at + 0 * w = omega arith in
-      ap₂ (λ (k p : ℕ). turnedRun w s k p out) (zero-add n) here
-  run-split w (suc m) n at out =
-      let next : at + w + m * w ≡ at + suc m * w = omega (arith, suc-mul m w) in
-      ap (λ (k : ℕ). turnedRun w s k at out) (suc-add m n)
-      ∙ run-split w m n (at + w) (turnedAt w s at out)
-      ∙ ap (λ (p : ℕ). turnedRun w s n p (turnedRun w s m (at + w) (turnedAt w s at out))) next
-
   -- bytes in a row are copied
   run-copied : (n at : ℕ) (out : List ℕ) → at + n ≤ length s → turnedRun 1 s n at out ≡ sets out at (take n (drop at s))
   unfolding turnedRun

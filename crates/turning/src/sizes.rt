@@ -11,7 +11,8 @@ ghost use Rattle.descriptor.specs.Limits.{dimensionLimit};
 ghost use Rattle.descriptor.specs.inner.Standing.{isRead};
 ghost use Rattle.flattened.specs.Walk.{arrayAt};
 ghost use Rattle.flattened.specs.inner.Order.{orderOf};
-ghost use Rattle.byteorder.specs.inner.Turning.{Room, SizesTurned};
+ghost use Rattle.byteorder.specs.inner.Turning.{Room};
+ghost use Rattle.turning.specs.inner.Tokens.{SizesTurned};
 
 // The size words of `dims` dimensions, from `at` on; how many elements follow them.
 pub fn turn_sizes(s: &[u8], out: &mut [u8], at: usize, dims: usize, o: Order) -> usize

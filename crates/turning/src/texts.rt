@@ -5,7 +5,7 @@ use flattened::order::Order;
 use flattened::order::number_4;
 ghost use Rattle.flattened.specs.Walk.{textAt, repeat};
 ghost use Rattle.flattened.specs.inner.Order.{orderOf};
-ghost use Rattle.byteorder.specs.inner.Turning.{Turnable, Turned};
+ghost use Rattle.turning.specs.inner.Tokens.{Turnable, Turned};
 
 // The string at `at`.
 pub fn turn_text(s: &[u8], out: &mut [u8], at: usize, o: Order) -> usize

@@ -1,12 +1,12 @@
 // The pass over accepted data that writes every number reversed. It runs on the accepted descriptor's own bytes, calls itself on what
 // stands inside a type with less of the depth left, and needs the byte order only for lengths and sizes.
-use super::columns::even_step;
-use super::columns::turn_even;
 use super::sizes::turn_sizes;
 use super::texts::turn_text;
 use super::texts::turn_texts;
 use byteorder::scalars::turn_scalar;
 use byteorder::scalars::turn_scalars;
+use columns::even::even_step;
+use columns::even::turn_even;
 use descriptor::codes::Kind;
 use descriptor::codes::kind_of;
 use descriptor::header::code_at;
@@ -20,7 +20,7 @@ ghost use Rattle.descriptor.specs.Width.{widthOf};
 ghost use Rattle.flattened.specs.Walk.{repeat, walk, walkAll};
 ghost use Rattle.flattened.specs.inner.Order.{orderOf};
 ghost use Rattle.flattened.specs.inner.Types.{typeAt, typesAt, TypeStands, RowStands};
-ghost use Rattle.byteorder.specs.inner.Turning.{Turnable, Turned};
+ghost use Rattle.turning.specs.inner.Tokens.{Turnable, Turned};
 
 // The value of the type at p, which is no scalar.
 fn turn_value(

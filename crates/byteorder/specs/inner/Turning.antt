@@ -1,21 +1,9 @@
--- How the code turns accepted data from one byte order to the other: number by number and token by token, each at its own place of the
--- output, and what its functions need and promise.
+-- How the code turns numbers from one byte order to the other, each at its own place of the output, and what its functions need.
 use mathlib.Core.Path.{_≡_}
-use mathlib.Core.Bool.{true}
-use mathlib.Core.List.{List, [], _∷_, reverse}
-use Prim.Native.Nat.{ℕ, zero, suc, _+_, _*_, _≤_}
+use mathlib.Core.List.{List, reverse}
+use Prim.Native.Nat.{ℕ, zero, suc, _+_, _≤_}
 use lib.ListN.{length, take, drop}
 use lib.Seq.{sets}
-use Rattle.descriptor.specs.Limits.{dataLimit}
-use Rattle.descriptor.specs.Outcome.{Outcome, refused, read}
-use Rattle.descriptor.specs.inner.Standing.{isRead, nextOf}
-use Rattle.flattened.specs.Order.{Order}
-use Rattle.flattened.specs.Token.{Token, tokenBytes}
-use Rattle.flattened.specs.Walk.{arrayAt}
-use Rattle.flattened.specs.inner.Cursor.{cursor}
-use Rattle.flattened.specs.inner.Sizes.{cappedSizes}
-use Rattle.flattened.specs.declared.sizes.Sizes.the-variants.{Count}
-use Rattle.byteorder.specs.Reversal.{reverseToken}
 
 -- the number of w bytes at `at` of s, reversed at the same place of the output
 abbrev pub turnedAt : ℕ → List ℕ → ℕ → List ℕ → List ℕ
@@ -26,16 +14,6 @@ unfoldable pub turnedRun : ℕ → List ℕ → ℕ → ℕ → List ℕ → Lis
 turnedRun w s zero at out = out
 turnedRun w s (suc n) at out = turnedRun w s n (at + w) (turnedAt w s at out)
 
--- tokens
-unfoldable pub turnedTokens : List ℕ → List Token → List ℕ → List ℕ
-turnedTokens s [] out = out
-turnedTokens s (t ∷ ts) out = turnedTokens s ts (sets out (t .start) (reverseToken (t .kind) (tokenBytes s t)))
-
--- the tokens of a walk that was read
-unfoldable pub tokensOf : Outcome (List Token) → List Token
-tokensOf (refused number place) = []
-tokensOf (read next ts) = ts
-
 -- a number is of one, two, four, eight or sixteen bytes
 pub record NumberWide (w : ℕ) : Type 0 where
   pub else : (w ≡ 8 → ⊥) → (w ≡ 4 → ⊥) → (w ≡ 2 → ⊥) → (w ≡ 16 → ⊥) → w ≡ 1
@@ -44,20 +22,3 @@ pub record NumberWide (w : ℕ) : Type 0 where
 pub record Room (s out : List ℕ) (stop : ℕ) : Type 0 where
   pub inside : stop ≤ length s
   pub room : length s ≤ length out
-
--- the walk o from `at` on reads, and the output has room for the data
-pub record Turnable (o : Outcome (List Token)) (s out : List ℕ) (at : ℕ) : Type 0 where
-  pub reads : isRead o ≡ true
-  pub here : Room s out at
-  pub short : length s ≤ dataLimit
-
--- its tokens are turned, and the next one starts at `next`
-pub record Turned (o : Outcome (List Token)) (s before after : List ℕ) (next : ℕ) : Type 0 where
-  pub place : next ≡ nextOf o
-  pub inside : next ≤ length s
-  pub bytes : after ≡ turnedTokens s (tokensOf o) before
-
--- the size words of k dimensions are turned, and n elements follow them, counted as the check counts them
-pub record SizesTurned (o : Order) (k : ℕ) (s : List ℕ) (at : ℕ) (before after : List ℕ) (n : ℕ) : Type 0 where
-  pub sized : Count n (cursor (at + 4 * k)) ≡ cappedSizes (arrayAt o s k at)
-  pub bytes : after ≡ turnedRun 4 s k at before

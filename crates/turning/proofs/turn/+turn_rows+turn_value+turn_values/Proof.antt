@@ -19,11 +19,11 @@ use Rattle.flattened.proofs.Cases.{hasInside, row-inside, is-cluster}
 use Rattle.flattened.proofs.Named.{not-kind}
 use Rattle.flattened.proofs.Repeats.{repeat-one}
 use Rattle.flattened.proofs.Types.{type-deep, type-solid, alone}
-use Rattle.walking.proofs.Walks.{value-text, value-cluster, value-array, walk-texts, walk-clusters, walk-alone}
-use Rattle.byteorder.specs.inner.Turning.{Turned}
+use Rattle.flattened.proofs.KindWalks.{value-text, value-cluster, value-array, walk-texts, walk-clusters, walk-alone}
+use Rattle.turning.specs.inner.Tokens.{Turned}
 use Rattle.turning.proofs.Remaining.{RepeatTurns, repeat-begin, repeat-here, repeat-next, repeat-end, remains-last}
 use Rattle.turning.proofs.Parts.{turnable-as, turned-as, turned-at, scalars-done, scalars-room, scalar-room, scalar-done, array-sizes, array-left, RowTurns, row-begin, row-here, row-ready, row-next, row-end}
-use Rattle.turning.proofs.Even.{even-laid, even-done}
+use Rattle.turning.proofs.EvenWalks.{even-laid, even-done}
 use borrow.Author.Needs.{needs}
 use borrow.Fn.Kinds.{In}
 use borrow.Fn.PlainCycle.{Measures, is, falls, and}
@@ -38,8 +38,8 @@ use Rattle.turning.proofs.turn.turn_values.Kinds as turn-values-kinds
 use Rattle.turning.proofs.turn.+turn_rows+turn_value+turn_values.Lts-turn_values as turn-values-lts
 use Rattle.byteorder.proofs.scalars.turn_scalar.Reads as turn-scalar-reads
 use Rattle.byteorder.proofs.scalars.turn_scalars.Reads as turn-scalars-reads
-use Rattle.turning.proofs.columns.even_step.Reads as even-step-reads
-use Rattle.turning.proofs.columns.turn_even.Reads as turn-even-reads
+use Rattle.columns.proofs.even.even_step.Reads as even-step-reads
+use Rattle.columns.proofs.even.turn_even.Reads as turn-even-reads
 use Rattle.turning.proofs.sizes.turn_sizes.Reads as turn-sizes-reads
 use Rattle.turning.proofs.texts.turn_text.Reads as turn-text-reads
 use Rattle.turning.proofs.texts.turn_texts.Reads as turn-texts-reads

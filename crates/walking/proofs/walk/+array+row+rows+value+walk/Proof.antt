@@ -26,7 +26,8 @@ use Rattle.flattened.proofs.Cases.{hasInside, row-inside, is-cluster}
 use Rattle.flattened.proofs.Types.{type-deep, alone}
 use Rattle.flattened.proofs.Repeats.{repeat-one}
 use Rattle.flattened.proofs.Turns.{RepeatLoop, repeat-begin, repeat-next, repeat-stop, repeat-end}
-use Rattle.walking.proofs.Walks.{Ahead, value-text, value-cluster, value-array, RowLoop, row-begin, row-here, row-stop, row-ahead, row-next, row-end, types-ahead, walk-texts, walk-clusters, walk-alone, values-few}
+use Rattle.flattened.proofs.KindWalks.{value-text, value-cluster, value-array, walk-texts, walk-clusters, walk-alone}
+use Rattle.walking.proofs.Walks.{Ahead, RowLoop, row-begin, row-here, row-stop, row-ahead, row-next, row-end, types-ahead, values-few}
 use borrow.Fn.Kinds.{In}
 use borrow.Fn.PlainCycle.{Measures, is, falls, and}
 use Rattle.walking.proofs.walk.array.Reads as array

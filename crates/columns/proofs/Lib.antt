@@ -1,0 +1,5 @@
+pub mod ColumnTurns
+pub mod Elements
+pub mod Blocks
+pub mod Numbers
+pub mod EvenTypes
