@@ -1,7 +1,7 @@
 # Completion of the command kerbcanopy in bash: commands, the options that fit the command, and files where it takes them.
 _kerbcanopy() {
     local word=${COMP_WORDS[COMP_CWORD]} before=${COMP_WORDS[COMP_CWORD - 1]}
-    local command='' options='' files=0 operands=0 ended='' index
+    local command='' options='' files=0 path='' operands=0 ended='' index
     COMPREPLY=()
     for ((index = 1; index < COMP_CWORD; index++)); do
         case $ended${COMP_WORDS[index]} in
@@ -20,6 +20,7 @@ _kerbcanopy() {
         explain) options='--all --html -o' files=2 ;;
         value) options='' files=2 ;;
         view) options='-o' files=2 ;;
+        difference) options='' files=5 path=2 ;;
         little) options='-o --room' files=2 ;;
         big) options='-o --room' files=2 ;;
         read) options='-o --room' files=3 ;;
@@ -27,15 +28,15 @@ _kerbcanopy() {
     if [ -z "$ended" ] && [ "$before" = --room ]; then
         return
     elif [ -z "$ended" ] && [ "$before" = -o ]; then
-        files=1 operands=0
+        files=1 path='' operands=0
     elif [ -z "$ended" ] && [[ $word == -* ]]; then
         mapfile -t COMPREPLY < <(compgen -W "$options --hex --json -h --help -V --version --" -- "$word")
         return
     elif [ -z "$command" ]; then
-        mapfile -t COMPREPLY < <(compgen -W 'check compare normal data dump explain value view little big read' -- "$word")
+        mapfile -t COMPREPLY < <(compgen -W 'check compare normal data dump explain value view difference little big read' -- "$word")
         return
     fi
-    if [ "$operands" -lt "$files" ]; then
+    if [ "$operands" -lt "$files" ] && [ "$operands" != "$path" ]; then
         compopt -o filenames 2> /dev/null
         mapfile -t COMPREPLY < <(compgen -f -- "$word")
     fi

@@ -4,7 +4,8 @@
  * Every function takes bytes, or a path's steps, as a pointer and a length, and asks of the caller only what C can't show: that as many of
  * them can be read, or in an output written, as the length says, that the steps, and numbers lent for an answer, are aligned, that nothing
  * else changes them during the call, and that an output overlaps no input and no other output. Where the length is 0 the pointer may be
- * NULL: nothing is read or written through it. Nothing is kept between calls, and nothing is allocated.
+ * NULL: nothing is read or written through it. The difference of two time stamps takes numbers alone, and any will do. Nothing is kept
+ * between calls, and nothing is allocated.
  *
  * Every answer has a number, the input at fault and a place.
  *
@@ -16,14 +17,15 @@
  *        2  under 4 bytes left before the parent's end                      start
  *        3  size word's high bit set                                        start
  *        4  size odd, under 4, or past the parent's end                     start
- *        5  code not carried                                                start
+ *        5  code not carried, or a time stamp's subtype not 6               start
  *        6  depth 9, the top being depth 1                                  start
  *        7  row 257                                                         start
  *        8  body longer than the size allows                                start
  *        9  a count outside its limits: 1 to 4 dimensions, 1 to 9 unit      start
  *           pairs, at least 1 enumeration item or cluster member
  *       10  wrong length or dimension word, base index over 8,              start
- *           enumeration fill byte not zero, array in array
+ *           enumeration fill byte not zero, array in array, anything
+ *           but its cluster in a time stamp
  *       11  what is left is no name                                         start
  *       12  bytes after the top descriptor                                  its size
  *       20  data over 65,536 bytes                                          0
@@ -33,8 +35,9 @@
  *       24  Boolean's byte over 1                                           piece start
  *       25  bytes left over                                                 first of them
  *       30  step out of range, or on a type without parts (input 4)         step number, from 0
- *       31  no single number there: a string, array, cluster, extended      0
- *           or complex number (input 4)
+ *       31  no single number there: a string, array, cluster, time stamp,   0
+ *           extended or complex number (input 4)
+ *       32  64 signed bits don't hold a difference's seconds (input 4)      0
  *       40  the reader is no cluster, or a member's name is missing,        reader's member, or 0
  *           empty or an earlier member's (input 2)
  *       41  the writer is no cluster (input 1)                              0
@@ -46,7 +49,8 @@
  * "Start" is the first byte of the descriptor at fault, counted from the first byte lent. For the top descriptor the parent's end is
  * the end of the lent bytes. Where several numbers fit, the answer is the first: 1; then at each descriptor, parent before child, 2 to
  * 7 and array in array, then its body (count word missing 8, count 9, the rest missing 8, contents 10; an enumeration in byte order, 8
- * at the first string that runs over), then the descriptors in it, then 11; last 12.
+ * at the first string that runs over; a time stamp's subtype missing 8, another one 5), then the descriptors in it, then what else a time
+ * stamp holds, 10, then 11; last 12.
  *
  * A piece of the data is one scalar, one whole string with its length word, or the size words of one array. "Piece start" is its first
  * byte, counted from the first byte of the data. A descriptor is judged to its end before its data: 20; then piece by piece 21, 22, 23,
@@ -110,7 +114,8 @@ enum kc_code {
     KC_CODE_BOOLEAN = 0x21,
     KC_CODE_STRING = 0x30,
     KC_CODE_ARRAY = 0x40,
-    KC_CODE_CLUSTER = 0x50
+    KC_CODE_CLUSTER = 0x50,
+    KC_CODE_TIME_STAMP = 0x54
 };
 
 /* The numbers of the table above. */
@@ -136,6 +141,7 @@ enum kc_number {
     KC_REFUSED_LEFT_OVER = 25,
     KC_REFUSED_STEP = 30,
     KC_REFUSED_NO_NUMBER = 31,
+    KC_REFUSED_DIFFERENCE = 32,
     KC_REFUSED_READER = 40,
     KC_REFUSED_WRITER = 41,
     KC_REFUSED_MISSING = 42,
@@ -198,6 +204,9 @@ typedef struct { kc_answer answer; size_t start, length; } kc_part;
  */
 typedef struct { kc_answer answer; uint32_t kind; uint64_t bits; } kc_value;
 
+/* A time between two stamps: seconds, which may be negative, and a fraction to be added to them, in units of 2^-64 second. */
+typedef struct { kc_answer answer; int64_t seconds; uint64_t fraction; } kc_difference;
+
 /*
  * Reads any bytes as a descriptor.
  *
@@ -230,8 +239,9 @@ kc_answer kc_normal_form(const uint8_t *descriptor, size_t descriptor_len, uint8
  * Walks data under a descriptor. Numbers are big-endian, as wide as their code says: 1, 2, 4, 8 bytes for 01 to 04 and again for 05 to
  * 08; 4, 8, 16 for 09 to 0B and 19 to 1B; 8, 16, 32 for 0C to 0E and 1C to 1E; 1, 2, 4 for 15 to 17; 1 for 21. A string is a 32-bit
  * length and its characters; an array is one 32-bit size for each dimension, then the elements, last dimension fastest; a cluster is
- * its members in order. Lengths and sizes are below 2^31, an enumeration's number is below its item count, a Boolean's byte is 0 for
- * false or 1 for true. Each piece starts exactly where the one before it ended, and together the pieces are the whole data.
+ * its members in order; a time stamp is its cluster's four integers. Lengths and sizes are below 2^31, an enumeration's number is below
+ * its item count, a Boolean's byte is 0 for false or 1 for true. Each piece starts exactly where the one before it ended, and together the
+ * pieces are the whole data.
  *
  * Accepted: number 0, input 0, and the place is the piece count.
  * Refused: 1 to 12 with input 1, or 20 to 25 with input 3.
@@ -239,8 +249,9 @@ kc_answer kc_normal_form(const uint8_t *descriptor, size_t descriptor_len, uint8
 kc_answer kc_check_data(const uint8_t *descriptor, size_t descriptor_len, const uint8_t *data, size_t data_len);
 
 /*
- * Finds a part of the data by a path of steps: a member number in a cluster, a flat element number in an array, counted from 0. The
- * empty path is the whole data. The part has its length and size words in it. The whole data is judged before the path.
+ * Finds a part of the data by a path of steps: a member number in a cluster, a flat element number in an array, counted from 0, or 0 in
+ * a time stamp for its cluster. The empty path is the whole data. The part has its length and size words in it. The whole data is judged
+ * before the path.
  *
  * Accepted: number 0, input 0, place 0, and the part's start and length.
  * Refused: 1 to 12 with input 1, 20 to 25 with input 3, or 30 with input 4; the part is empty at the front, start 0 and length 0.
@@ -299,15 +310,30 @@ kc_answer kc_read_record(const uint8_t *writer, size_t writer_len, const uint8_t
                          const uint8_t *data, size_t data_len, uint8_t *out, size_t out_len);
 
 /*
+ * Takes the second time stamp from the first, exactly. Each is given as its four integers, as kc_read_value gives them at the steps 0 0 to
+ * 0 3 of a time stamp: the high and low halves of a signed 64-bit count of seconds since 1904-01-01 00:00 universal time, then those of
+ * the fraction in units of 2^-64 second. The low half of the seconds counts by its bits. Any numbers will do.
+ *
+ * Accepted: number 0, input 0, place 0, and the difference's seconds and fraction. The fraction is from 0 up to one second: where the
+ * first stamp is the earlier one the seconds are negative, and half a second less is -1 and 2^63.
+ * Refused: 32 with input 4 and place 0 where 64 signed bits don't hold the seconds; seconds and fraction are 0.
+ */
+kc_difference kc_stamp_difference(int32_t first_seconds_high, int32_t first_seconds_low,
+                                  uint32_t first_fraction_high, uint32_t first_fraction_low,
+                                  int32_t second_seconds_high, int32_t second_seconds_low,
+                                  uint32_t second_fraction_high, uint32_t second_fraction_low);
+
+/*
  * The same questions for callers that can't take a struct by value, such as LabVIEW's Call Library Function node. Each of these takes what
  * the function of its name without `_into` takes, then pointers, none of them NULL, to numbers that are lent for the answer. Every call,
  * a refusal too, sets each of these numbers to what stands in the struct that the other function returns:
  *
- *   answer          number, input and place
- *   table           the 256 rows one after another, each the seven numbers of a kc_row in their order
- *   equal           1 for yes, 0 for no
- *   start, length   those of the kc_part
- *   kind, bits      those of the kc_value
+ *   answer              number, input and place
+ *   table               the 256 rows one after another, each the seven numbers of a kc_row in their order
+ *   equal               1 for yes, 0 for no
+ *   start, length       those of the kc_part
+ *   kind, bits          those of the kc_value
+ *   seconds, fraction   those of the kc_difference
  *
  * `out` is left as the other function leaves it.
  */
@@ -340,6 +366,12 @@ void kc_from_little_endian_into(const uint8_t *descriptor, size_t descriptor_len
 void kc_read_record_into(const uint8_t *writer, size_t writer_len, const uint8_t *reader, size_t reader_len,
                          const uint8_t *data, size_t data_len, uint8_t *out, size_t out_len,
                          uint32_t answer[KC_ANSWER_NUMBERS]);
+
+void kc_stamp_difference_into(int32_t first_seconds_high, int32_t first_seconds_low,
+                              uint32_t first_fraction_high, uint32_t first_fraction_low,
+                              int32_t second_seconds_high, int32_t second_seconds_low,
+                              uint32_t second_fraction_high, uint32_t second_fraction_low,
+                              uint32_t answer[KC_ANSWER_NUMBERS], int64_t *seconds, uint64_t *fraction);
 
 #ifdef __cplusplus
 }

@@ -15,7 +15,9 @@ ENUMERATIONS = {0x15: "B", 0x16: "H", 0x17: "I"}
 #: How wide a real number is, and how many stand in one scalar: two in a complex one.
 REALS = {0x09: (4, 1), 0x0A: (8, 1), 0x0B: (16, 1), 0x0C: (4, 2), 0x0D: (8, 2), 0x0E: (16, 2)}
 QUANTITIES = {code + 0x10: shape for code, shape in REALS.items()}
-BOOLEAN, STRING, ARRAY, CLUSTER = 0x21, 0x30, 0x40, 0x50
+BOOLEAN, STRING, ARRAY, CLUSTER, STAMP = 0x21, 0x30, 0x40, 0x50, 0x54
+#: The subtype word of a time stamp, and its integers' codes.
+SUBTYPE, HALVES = 6, (0x03, 0x03, 0x07, 0x07)
 PLAIN = [*INTEGERS, *REALS, BOOLEAN]
 
 
@@ -36,6 +38,8 @@ class Type:
             return len(self.items)
         if self.code in QUANTITIES:
             return len(self.pairs)
+        if self.code == STAMP:
+            return 0
         return self.dimensions if self.code == ARRAY else len(self.inside)
 
     @property
@@ -76,6 +80,8 @@ def described(tree: Type, reserved: Callable[[], int] = lambda: 0, start: int = 
         body = word(tree.dimensions) + b"\xFF\xFF\xFF\xFF" * tree.dimensions
     elif tree.code == CLUSTER:
         body = word(len(tree.inside))
+    elif tree.code == STAMP:
+        body = word(SUBTYPE)
     for one in tree.inside:
         child, below = described(one, reserved, start + 4 + len(body), depth + 1)
         body += child
@@ -104,7 +110,7 @@ def flattened(tree: Type, value: Any, order: str = ">") -> bytes:
         sizes, elements = value
         words = struct.pack(f"{order}{len(sizes)}I", *sizes)
         return words + b"".join(flattened(tree.inside[0], one, order) for one in elements)
-    if tree.code == CLUSTER:
+    if tree.code in (CLUSTER, STAMP):
         return b"".join(flattened(member, one, order) for member, one in zip(tree.inside, value))
     return number(tree.code, value, order)
 
@@ -112,7 +118,7 @@ def flattened(tree: Type, value: Any, order: str = ">") -> bytes:
 def pieces(tree: Type, value: Any) -> int:
     if tree.code == ARRAY:
         return 1 + sum(pieces(tree.inside[0], one) for one in value[1])
-    if tree.code == CLUSTER:
+    if tree.code in (CLUSTER, STAMP):
         return sum(pieces(member, one) for member, one in zip(tree.inside, value))
     return 1
 
@@ -121,7 +127,7 @@ def parts(tree: Type, value: Any, path: Tuple[int, ...] = ()) -> Iterator[Tuple[
     """Every part of a value with its path and its type."""
     yield path, tree, value
     inside: List[Tuple[Type, Any]] = []
-    if tree.code == CLUSTER:
+    if tree.code in (CLUSTER, STAMP):
         inside = list(zip(tree.inside, value))
     elif tree.code == ARRAY:
         inside = [(tree.inside[0], one) for one in value[1]]
@@ -144,7 +150,7 @@ def walked(tree: Type, data: bytes, start: int = 0) -> int:
             raise Bad
         return tuple(sizes)
 
-    if tree.code == CLUSTER:
+    if tree.code in (CLUSTER, STAMP):
         for member in tree.inside:
             start = walked(member, data, start)
         return start
@@ -176,10 +182,18 @@ def zero(code: int) -> Any:
 names = st.one_of(st.none(), st.just(b""), st.binary(min_size=1, max_size=6), st.sampled_from([b"id", b"t", bytes(range(1, 256))]))
 items = st.lists(st.binary(max_size=5), min_size=1, max_size=5).map(lambda some: tuple(some))
 pairs = st.lists(st.tuples(st.integers(0, 8), st.integers(-32768, 32767)), min_size=1, max_size=9).map(lambda some: tuple(some))
+
+
+def stamp(name: Optional[bytes]) -> Type:
+    """A time stamp, which holds a cluster of four integers."""
+    return Type(STAMP, name, inside=(Type(CLUSTER, inside=tuple(map(Type, HALVES))),))
+
+
 leaves = st.one_of(
     st.builds(Type, st.sampled_from([*PLAIN, STRING]), names),
     st.builds(Type, st.sampled_from(list(ENUMERATIONS)), names, items),
     st.builds(Type, st.sampled_from(list(QUANTITIES)), names, pairs=pairs),
+    st.builds(stamp, names),
 )
 
 
@@ -219,7 +233,7 @@ def values(tree: Type) -> st.SearchStrategy[Any]:
         return st.booleans()
     if tree.code == STRING:
         return st.binary(max_size=8)
-    if tree.code == CLUSTER:
+    if tree.code in (CLUSTER, STAMP):
         return st.tuples(*map(values, tree.inside))
     if tree.code == ARRAY:
         return st.lists(st.integers(0, 2), min_size=tree.dimensions, max_size=tree.dimensions).flatmap(

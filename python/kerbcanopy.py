@@ -25,9 +25,10 @@ from dataclasses import dataclass
 from typing import Any, Dict, List, NamedTuple, Sequence, Tuple, Union
 
 __all__ = [
-    "DATA_LIMIT", "DESCRIPTOR_LIMIT", "LIBRARY", "MEANINGS", "Bytes", "Kind", "Refusal", "Room", "Row", "Value",
+    "DATA_LIMIT", "DESCRIPTOR_LIMIT", "LIBRARY", "MEANINGS", "Bytes", "Difference", "Kind", "Refusal", "Room", "Row", "Stamp", "Value",
     "check_data", "check_descriptor", "compare", "from_little_endian", "from_little_endian_into", "normal_form",
-    "normal_form_into", "read_record", "read_record_into", "read_value", "to_little_endian", "to_little_endian_into", "view",
+    "normal_form_into", "read_record", "read_record_into", "read_value", "stamp_difference", "to_little_endian", "to_little_endian_into",
+    "view",
 ]
 
 Bytes = Union[bytes, bytearray, memoryview]
@@ -44,13 +45,13 @@ MEANINGS: Dict[int, str] = {
     2: "fewer than 4 bytes are left where a descriptor should start",
     3: "the size has its high bit set",
     4: "the size is odd, under 4, or runs past the end of what it stands in",
-    5: "the code is none that is read here",
+    5: "the code is none that is read here, or a time stamp's subtype is not 6",
     6: "it stands nine levels deep, and eight are the most",
     7: "it would be type 257, and 256 are the most",
     8: "what the type needs is longer than its size allows",
     9: "a count is outside its limits",
     10: "a length or dimension is not FFFFFFFF, a unit's base is over 8, an enumeration's fill byte is not zero,"
-        " or an array stands directly in an array",
+        " an array stands directly in an array, or a time stamp holds anything but its cluster of four integers",
     11: "what is left after the type is no name",
     12: "bytes follow the descriptor",
     20: "the data has more than 65,536 bytes",
@@ -59,8 +60,9 @@ MEANINGS: Dict[int, str] = {
     23: "the enumeration has no item of this number",
     24: "the Boolean is neither 0 nor 1",
     25: "bytes are left over",
-    30: "the step leads nowhere: there is no such member or element",
-    31: "there is no single number: a string, array, cluster, extended or complex number",
+    30: "the step leads nowhere: there is no such part",
+    31: "there is no single number: a string, array, cluster, time stamp, extended or complex number",
+    32: "the difference's seconds don't fit 64 signed bits",
     40: "the reader is no cluster, or this member's name is missing, empty or an earlier member's",
     41: "the writer is no cluster",
     42: "the writer has no member of this name",
@@ -146,6 +148,51 @@ class Value:
         return self.bits
 
 
+def _fit(seconds: int, fraction: int) -> None:
+    if not -(1 << 63) <= seconds < 1 << 63:
+        raise OverflowError(f"the seconds {seconds} don't fit 64 signed bits")
+    if not 0 <= fraction < 1 << 64:
+        raise OverflowError(f"the fraction {fraction} doesn't fit 64 unsigned bits")
+
+
+@dataclass(frozen=True, order=True)
+class Stamp:
+    """A time stamp: seconds since 1904-01-01 00:00 universal time, and a fraction to be added to them, in units of 2^-64 second. The
+    seconds are a signed number of 64 bits, the fraction an unsigned one; others are an OverflowError. A later stamp is greater.
+    """
+
+    seconds: int
+    fraction: int
+
+    def __post_init__(self) -> None:
+        _fit(self.seconds, self.fraction)
+
+    @classmethod
+    def of(cls, part: Bytes) -> Stamp:
+        """The stamp whose data this is: the 16 bytes that `view` gives where a time stamp stands. Another length is a ValueError."""
+        data = _lent(part)
+        if len(data) != 16:
+            raise ValueError(f"a time stamp's data has 16 bytes, not {len(data)}")
+        return cls(*struct.unpack(">qQ", data))
+
+
+@dataclass(frozen=True, order=True)
+class Difference:
+    """The time between two stamps: seconds, which may be negative, and a fraction to be added to them, in units of 2^-64 second. They
+    have the limits of a stamp's. A longer time is greater, one back in time being less than none.
+    """
+
+    seconds: int
+    fraction: int
+
+    def __post_init__(self) -> None:
+        _fit(self.seconds, self.fraction)
+
+    def __float__(self) -> float:
+        """About how many seconds it is."""
+        return ((self.seconds << 64) + self.fraction) / (1 << 64)
+
+
 class _Answer(ctypes.Structure):
     _fields_ = [(name, ctypes.c_uint32) for name in ("number", "input", "place")]
 
@@ -168,6 +215,10 @@ class _Part(ctypes.Structure):
 
 class _Value(ctypes.Structure):
     _fields_ = [("answer", _Answer), ("kind", ctypes.c_uint32), ("bits", ctypes.c_uint64)]
+
+
+class _Difference(ctypes.Structure):
+    _fields_ = [("answer", _Answer), ("seconds", ctypes.c_int64), ("fraction", ctypes.c_uint64)]
 
 
 _SONAME = "libkerbcanopy.so.0"
@@ -204,12 +255,13 @@ _library = _loaded(LIBRARY)
 _INPUT: Tuple[Any, ...] = (ctypes.c_char_p, ctypes.c_size_t)
 _OUTPUT: Tuple[Any, ...] = (ctypes.c_void_p, ctypes.c_size_t)
 _PATH: Tuple[Any, ...] = (ctypes.c_void_p, ctypes.c_size_t)
+_STAMP: Tuple[Any, ...] = (ctypes.c_int32, ctypes.c_int32, ctypes.c_uint32, ctypes.c_uint32)
 
 
 def _entry(name: str, result: Any, *arguments: Tuple[Any, ...]) -> Any:
     entry = getattr(_library, name)
     entry.restype = result
-    entry.argtypes = [one for pair in arguments for one in pair]
+    entry.argtypes = [one for several in arguments for one in several]
     return entry
 
 
@@ -222,6 +274,7 @@ _read_value = _entry("kc_read_value", _Value, _INPUT, _INPUT, _PATH)
 _to_little_endian = _entry("kc_to_little_endian", _Answer, _INPUT, _INPUT, _OUTPUT)
 _from_little_endian = _entry("kc_from_little_endian", _Answer, _INPUT, _INPUT, _OUTPUT)
 _read_record = _entry("kc_read_record", _Answer, _INPUT, _INPUT, _INPUT, _OUTPUT)
+_stamp_difference = _entry("kc_stamp_difference", _Difference, _STAMP, _STAMP)
 
 
 def _lent(what: Bytes) -> bytes:
@@ -265,6 +318,13 @@ def _steps(path: Sequence[int]) -> Tuple[Any, int]:
     steps = [step if 0 <= step < 1 << 32 else (1 << 32) - 1 for step in path]
     # One step more than there are, so that the pointer is never NULL.
     return (ctypes.c_uint32 * (len(steps) + 1))(*steps), len(steps)
+
+
+def _halves(stamp: Stamp) -> Tuple[Any, ...]:
+    """A time stamp's four integers."""
+    if not isinstance(stamp, Stamp):
+        raise TypeError(f"a Stamp is asked for, not a {type(stamp).__name__}")
+    return struct.unpack(">iiII", struct.pack(">qQ", stamp.seconds, stamp.fraction))
 
 
 def check_descriptor(descriptor: Bytes) -> List[Row]:
@@ -314,8 +374,8 @@ def check_data(descriptor: Bytes, data: Bytes) -> int:
 
 def view(descriptor: Bytes, data: Bytes, path: Sequence[int] = ()) -> memoryview:
     """The part of the data that the path leads to, length and size words included. A step is a member's number in a cluster or a flat
-    element's number in an array, counted from 0; the empty path is the whole data. The part is of the bytes lent, or of a copy where they
-    were not `bytes`.
+    element's number in an array, counted from 0, or 0 in a time stamp; the empty path is the whole data. The part is of the bytes lent, or
+    of a copy where they were not `bytes`.
 
     Refused: 1 to 12 with input 1, 20 to 25 with input 3, 30 with input 4 where a step leads nowhere.
     """
@@ -387,3 +447,18 @@ def read_record_into(writer: Bytes, reader: Bytes, data: Bytes, out: Room) -> in
     Refused: as `read_record`; then 50 with input 4 where `out` is too small.
     """
     return _into(_read_record, [_lent(writer), _lent(reader), _lent(data)], out)
+
+
+def stamp_difference(first: Stamp, second: Stamp) -> Difference:
+    """The first time stamp less the second, exactly; the fraction is from 0 up to one second.
+
+        >>> stamp_difference(Stamp(1, 0), Stamp(0, 1 << 62))
+        Difference(seconds=0, fraction=13835058055282163712)
+        >>> float(stamp_difference(Stamp(0, 1 << 62), Stamp(1, 0)))
+        -0.75
+
+    Refused: 32 with input 4 where the seconds don't fit 64 signed bits. What is no `Stamp` is a TypeError.
+    """
+    given = _stamp_difference(*_halves(first), *_halves(second))
+    _accepted(given.answer)
+    return Difference(given.seconds, given.fraction)

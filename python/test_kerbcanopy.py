@@ -13,7 +13,7 @@ import unittest
 from typing import Any, Callable, Dict, List, Tuple
 
 import kerbcanopy
-from kerbcanopy import Kind, Refusal, Row, Value
+from kerbcanopy import Difference, Kind, Refusal, Row, Stamp, Value
 
 
 def raw(text: str) -> bytes:
@@ -26,6 +26,9 @@ DATA = raw("0019 0000 0009")
 WORD, FLAG, TEXT = raw("0004 0003"), raw("0004 0021"), raw("0008 0030 FFFF FFFF")
 ARRAY = raw("000E 0040 0001 FFFF FFFF 0004 000A")
 ITEMS = raw("0016 0015 0003 0261 6D02 666D 0966 6D20 7374 6572 656F")
+STAMP = raw("001C 0054 0006 0016 0050 0004 0004 0003 0004 0003 0004 0007 0004 0007")
+#: The ends of a stamp's seconds and fraction.
+LEAST, MOST, LAST = -(1 << 63), (1 << 63) - 1, (1 << 64) - 1
 
 
 def cluster(*members: bytes) -> bytes:
@@ -74,6 +77,16 @@ RECORDS: Dict[int, Tuple[bytes, bytes, bytes, int, int]] = {
     43: (cluster(READER[6:], READER[6:]), READER, bytes(8), 2, 0),
     44: (RIG, raw("000E 0050 0001 0008 0003 0269 6400"), DATA, 2, 0),
 }
+
+
+#: Stamps whose difference is refused with 32.
+FAR: List[Tuple[Stamp, Stamp]] = [
+    (Stamp(0, 0), Stamp(LEAST, 0)),
+    (Stamp(LEAST, 0), Stamp(0, 1)),
+    (Stamp(-1, 4), Stamp(MOST, 5)),
+    (Stamp(MOST, 0), Stamp(-1, 0)),
+    (Stamp(MOST, LAST), Stamp(LEAST, 0)),
+]
 
 
 class Case(unittest.TestCase):
@@ -140,6 +153,59 @@ class Questions(Case):
         self.assertEqual(kerbcanopy.read_record(RIG, READER, DATA), raw("0000 0009"))
         self.assertEqual(kerbcanopy.read_record(RIG, RIG, DATA), DATA)
 
+    def test_stamp_difference(self) -> None:
+        cases: List[Tuple[Stamp, Stamp, Difference]] = [
+            (Stamp(5, 7), Stamp(3, 2), Difference(2, 5)),
+            (Stamp(3, 2), Stamp(5, 7), Difference(-3, LAST - 4)),
+            (Stamp(1, 0), Stamp(0, 1), Difference(0, LAST)),
+            (Stamp(1 << 32, 1 << 32), Stamp(1, 1), Difference((1 << 32) - 1, (1 << 32) - 1)),
+            (Stamp(0, 0), Stamp(LEAST, 1), Difference(MOST, LAST)),
+            (Stamp(-1, 0), Stamp(MOST, 0), Difference(LEAST, 0)),
+        ]
+        for first, second, expected in cases:
+            self.assertEqual(kerbcanopy.stamp_difference(first, second), expected)
+        self.assertEqual(float(Difference(-1, 1 << 63)), -0.5)
+
+    def test_a_stamp_out_of_data(self) -> None:
+        data = raw("FFFFFFFF 80000000 00000001 00000002")
+        self.assertEqual([kerbcanopy.read_value(STAMP, data, [0, at]).value for at in range(4)], [-1, -(1 << 31), 1, 2])
+        for path in ((), (0,)):
+            self.assertEqual(Stamp.of(kerbcanopy.view(STAMP, data, path)), Stamp(-(1 << 31), (1 << 32) + 2))
+        for length in (0, 15, 17):
+            with self.assertRaises(ValueError):
+                Stamp.of(bytes(length))
+        for kind in (bytes, bytearray, memoryview):
+            self.assertEqual(Stamp.of(kind(data)), Stamp(-(1 << 31), (1 << 32) + 2))
+
+    def test_what_no_stamp_holds(self) -> None:
+        kinds: List[Callable[[int, int], Any]] = [Stamp, Difference]
+        for made in kinds:
+            for wrong in ((MOST + 1, 0), (LEAST - 1, 0), (0, LAST + 1), (0, -1)):
+                with self.assertRaises(OverflowError):
+                    made(*wrong)
+            self.assertEqual(made(LEAST, LAST).fraction, LAST)
+            with self.assertRaises(AttributeError):
+                setattr(made(0, 0), "seconds", 1)
+
+    def test_a_stamp_is_neither_a_tuple_nor_a_difference(self) -> None:
+        one, other = Stamp(1, 0), Stamp(0, LAST)
+        self.assertNotEqual(one, (1, 0))
+        self.assertNotEqual(one, Difference(1, 0))
+        self.assertEqual({one: "kept"}[pickle.loads(pickle.dumps(one))], "kept")
+        self.assertEqual(sorted([one, other]), [other, one])
+        self.assertLess(Difference(-1, LAST), Difference(0, 0))
+        # As a caller without types could write it.
+        anything: Any = one
+        with self.assertRaises(TypeError):
+            anything + other
+        with self.assertRaises(TypeError):
+            anything < Difference(1, 0)
+        with self.assertRaises(TypeError):
+            list(anything)
+        for first, second in ((Difference(1, 0), one), (one, Difference(1, 0)), ((1, 0), one), (one, 1)):
+            with self.assertRaises(TypeError):
+                kerbcanopy.stamp_difference(first, second)  # type: ignore[arg-type]
+
     def test_whatever_has_bytes_can_be_lent(self) -> None:
         for kind in (bytes, bytearray, memoryview):
             self.assertEqual(kerbcanopy.read_record(kind(RIG), kind(READER), kind(DATA)), raw("0000 0009"))
@@ -191,9 +257,13 @@ class Refusals(Case):
             self.refused((number, input_, place), kerbcanopy.read_record, writer, reader, data)
             self.refused((number, input_, place), kerbcanopy.read_record_into, writer, reader, data, bytearray())
 
+    def test_of_differences(self) -> None:
+        for first, second in FAR:
+            self.refused((32, 4, 0), kerbcanopy.stamp_difference, first, second)
+
     def test_every_number_is_met_and_has_its_words(self) -> None:
-        self.assertEqual({*DESCRIPTORS, *DATAS, *RECORDS, 30, 31, 50}, set(kerbcanopy.MEANINGS))
-        self.assertEqual(len(set(kerbcanopy.MEANINGS.values())), 26)
+        self.assertEqual({*DESCRIPTORS, *DATAS, *RECORDS, 30, 31, 32, 50}, set(kerbcanopy.MEANINGS))
+        self.assertEqual(len(set(kerbcanopy.MEANINGS.values())), 27)
         refusal = self.refused((21, 3, 2), kerbcanopy.check_data, RIG, DATA[:5])
         self.assertEqual(str(refusal), "refused with 21: the data ends inside this piece (input 3, the data; place 2)")
         self.assertEqual(pickle.loads(pickle.dumps(refusal)).args, refusal.args)

@@ -1,5 +1,5 @@
-"""Demands 2 and 3 over generated descriptors and data: trees and values are made and encoded by described.py, which knows the rules and
-nothing of the library. Run as test_kerbcanopy.py says.
+"""Demands 2 and 3 over generated descriptors and data, and the difference of generated time stamps: trees and values are made and encoded
+by described.py, which knows the rules and nothing of the library. Run as test_kerbcanopy.py says.
 """
 
 from __future__ import annotations
@@ -69,6 +69,8 @@ def tree_of(descriptor: bytes, rows: List[kerbcanopy.Row]) -> Type:
         return replace(tree, pairs=tuple(struct.unpack_from(">Hh", descriptor, at + 4 * index) for index in range(row.count)))
     if row.code == described.ARRAY:
         return replace(tree, dimensions=row.count, inside=(tree_of(descriptor, rows),))
+    if row.code == described.STAMP:
+        return replace(tree, inside=(tree_of(descriptor, rows),))
     if row.code == CLUSTER:
         return replace(tree, inside=tuple(tree_of(descriptor, rows) for _ in range(row.count)))
     return tree
@@ -109,7 +111,7 @@ class Descriptors(unittest.TestCase):
 @st.composite
 def changed(draw: Any, tree: Type) -> Type:
     """A tree that may differ in one thing from this one."""
-    if tree.inside and draw(st.booleans()):
+    if tree.inside and tree.code != described.STAMP and draw(st.booleans()):
         at = draw(st.integers(0, len(tree.inside) - 1))
         inside = list(tree.inside)
         inside[at] = draw(changed(inside[at]))
@@ -223,6 +225,41 @@ class Records(unittest.TestCase):
             self.assertEqual((room < len(expected), out), (True, b"\xA5" * room))
         else:
             self.assertEqual((written, out), (len(expected), expected + b"\xA5" * (room - written)))
+
+
+def near(*middles: int) -> st.SearchStrategy[int]:
+    return st.builds(int.__add__, st.sampled_from(middles), st.integers(-2, 2))
+
+
+LEAST, MOST, LAST = -(1 << 63), (1 << 63) - 1, (1 << 64) - 1
+seconds = (st.integers(LEAST, MOST) | near(LEAST, -(1 << 32), 0, 1 << 31, 1 << 32, MOST)).filter(lambda whole: LEAST <= whole <= MOST)
+fractions = (st.integers(0, LAST) | near(0, 1 << 31, 1 << 32, 1 << 63, LAST)).filter(lambda part: 0 <= part <= LAST)
+stamps = st.builds(kerbcanopy.Stamp, seconds, fractions)
+
+
+class Stamps(unittest.TestCase):
+    @settings(max_examples=1_000)
+    @given(stamps, stamps)
+    def test_the_difference_is_that_of_the_numbers(self, first: kerbcanopy.Stamp, second: kerbcanopy.Stamp) -> None:
+        one, other = ((stamp.seconds << 64) + stamp.fraction for stamp in (first, second))
+        whole, part = divmod(one - other, 1 << 64)
+        if LEAST <= whole <= MOST:
+            given_ = kerbcanopy.stamp_difference(first, second)
+            self.assertEqual(given_, kerbcanopy.Difference(whole, part))
+            self.assertEqual(float(given_), (one - other) / (1 << 64))
+        else:
+            with self.assertRaises(kerbcanopy.Refusal) as caught:
+                kerbcanopy.stamp_difference(first, second)
+            self.assertEqual(caught.exception.args, (32, 4, 0))
+
+    @given(stamps)
+    def test_a_stamp_out_of_its_data(self, stamp: kerbcanopy.Stamp) -> None:
+        descriptor = encoded(described.stamp(None))
+        data = struct.pack(">qQ", stamp.seconds, stamp.fraction)
+        self.assertEqual(kerbcanopy.Stamp.of(kerbcanopy.view(descriptor, data)), stamp)
+        high, low, *halves = (kerbcanopy.read_value(descriptor, data, (0, half)).value for half in range(4))
+        self.assertEqual((int(high) << 32) + int(low) % (1 << 32), stamp.seconds)
+        self.assertEqual((int(halves[0]) << 32) + int(halves[1]), stamp.fraction)
 
 
 if __name__ == "__main__":

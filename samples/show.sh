@@ -1,5 +1,6 @@
 #!/bin/sh
-# What `make run` shows: a record read by name, the same record with its members moved, and a damaged one refused with its byte marked.
+# What `make run` shows: a record read by name, the same record with its members moved, a damaged one refused with its byte marked, and
+# time stamps with the time between them.
 # It runs the command kerbcanopy that stands on the path, from the repository's root.
 set -u
 
@@ -33,3 +34,7 @@ run read samples/rig-reserved.hex samples/reader.hex samples/data/rig.hex
 
 say "A record that was cut gives nothing. It is refused, and its byte is marked:"
 run read samples/rig.hex samples/reader.hex samples/data/rig-cut.hex
+
+say "A record with time stamps, and the time between them:"
+run dump samples/coat.hex samples/data/coat.hex
+run difference samples/coat.hex samples/data/coat.hex end start

@@ -1,5 +1,6 @@
 /*
- * Inputs for the tests of the C side, as hexadecimal text, and what document 01 says of them. Each number that it gives is met once.
+ * Inputs for the tests of the C side, as hexadecimal text, time stamps as their four integers, and what document 01 and request 1 of
+ * document 02 say of them. Each number that they give is met once.
  */
 #ifndef CASES_H
 #define CASES_H
@@ -78,6 +79,33 @@ static const one_case cases[] = {
 };
 
 enum { CASES = sizeof cases / sizeof cases[0] };
+
+typedef struct { int32_t seconds_high, seconds_low; uint32_t fraction_high, fraction_low; } stamp;
+
+/* Two time stamps, the number that their difference is answered with, and its seconds and fraction. */
+typedef struct {
+    const char *what;
+    stamp first, second;
+    uint32_t number;
+    int64_t seconds;
+    uint64_t fraction;
+} stamp_case;
+
+static const stamp_case stamp_cases[] = {
+    { "the same stamp", { 0, 5, 0, 7 }, { 0, 5, 0, 7 }, 0, 0, 0 },
+    { "a later one", { 1, 5, 2, 7 }, { 0, 3, 1, 2 }, 0, 0x100000002, 0x100000005 },
+    { "an earlier one", { 0, 3, 0, 2 }, { 0, 5, 0, 2 }, 0, -2, 0 },
+    { "a second borrowed", { 0, 1, 0, 0 }, { 0, 0, 0, 1 }, 0, 0, UINT64_MAX },
+    { "a second borrowed below 0", { 0, 0, 0, 0 }, { 0, 0, 0x80000000, 0 }, 0, -1, 0x8000000000000000 },
+    { "a low half by its bits", { 0, -1, 0, 0 }, { 0, INT32_MIN, 0, 0 }, 0, 0x7FFFFFFF, 0 },
+    { "before 1904", { -1, -1, 0, 1 }, { 0, 0, 0, 0 }, 0, -1, 1 },
+    { "the longest", { 0, 0, 0, 0 }, { INT32_MIN, 0, 0, 1 }, 0, INT64_MAX, UINT64_MAX },
+    { "the longest below 0", { -1, -1, 0, 0 }, { INT32_MAX, -1, 0, 0 }, 0, INT64_MIN, 0 },
+    { "one second too long", { 0, 0, 0, 5 }, { INT32_MIN, 0, 0, 5 }, 32, 0, 0 },
+    { "one second too long below 0", { -1, -1, 0, 4 }, { INT32_MAX, -1, 0, 5 }, 32, 0, 0 },
+};
+
+enum { STAMP_CASES = sizeof stamp_cases / sizeof stamp_cases[0] };
 
 static unsigned digit(char c)
 {

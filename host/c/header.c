@@ -1,6 +1,6 @@
 /*
- * The header against the figures of layout.def, against document 01 and against the library: the layout of every struct, the version,
- * and each named constant by an answer that has it. Builds as C and as C++; run from the repository's root.
+ * The header against the figures of layout.def, against the documents 01 and 02 and against the library: the layout of every struct,
+ * the version, and each named constant by an answer that has it. Builds as C and as C++; run from the repository's root.
  */
 #include "cases.h"
 
@@ -35,7 +35,7 @@ typedef struct { const char *name; unsigned value, stated; } constant;
 
 #define IS(name, stated) { #name, name, stated }
 
-/* The constants that no answer has, and those of codes, kinds and inputs, as document 01 and the interface give them. */
+/* The constants that no answer has, and those of codes, kinds and inputs, as the documents and the interface give them. */
 static const constant constants[] = {
     IS(KC_CODE_I8, 0x01), IS(KC_CODE_I16, 0x02), IS(KC_CODE_I32, 0x03), IS(KC_CODE_I64, 0x04), IS(KC_CODE_U8, 0x05),
     IS(KC_CODE_U16, 0x06), IS(KC_CODE_U32, 0x07), IS(KC_CODE_U64, 0x08), IS(KC_CODE_SINGLE, 0x09), IS(KC_CODE_DOUBLE, 0x0A),
@@ -44,18 +44,18 @@ static const constant constants[] = {
     IS(KC_CODE_QUANTITY_SINGLE, 0x19), IS(KC_CODE_QUANTITY_DOUBLE, 0x1A), IS(KC_CODE_QUANTITY_EXTENDED, 0x1B),
     IS(KC_CODE_QUANTITY_COMPLEX_SINGLE, 0x1C), IS(KC_CODE_QUANTITY_COMPLEX_DOUBLE, 0x1D),
     IS(KC_CODE_QUANTITY_COMPLEX_EXTENDED, 0x1E), IS(KC_CODE_BOOLEAN, 0x21), IS(KC_CODE_STRING, 0x30), IS(KC_CODE_ARRAY, 0x40),
-    IS(KC_CODE_CLUSTER, 0x50), IS(KC_ACCEPTED, 0), IS(KC_REFUSED_DESCRIPTOR_LENGTH, 1), IS(KC_REFUSED_HEADER, 2),
-    IS(KC_REFUSED_SIZE_BIT, 3), IS(KC_REFUSED_SIZE, 4), IS(KC_REFUSED_CODE, 5), IS(KC_REFUSED_DEPTH, 6), IS(KC_REFUSED_ROWS, 7),
-    IS(KC_REFUSED_BODY, 8), IS(KC_REFUSED_COUNT, 9), IS(KC_REFUSED_CONTENTS, 10), IS(KC_REFUSED_NAME, 11),
+    IS(KC_CODE_CLUSTER, 0x50), IS(KC_CODE_TIME_STAMP, 0x54), IS(KC_ACCEPTED, 0), IS(KC_REFUSED_DESCRIPTOR_LENGTH, 1),
+    IS(KC_REFUSED_HEADER, 2), IS(KC_REFUSED_SIZE_BIT, 3), IS(KC_REFUSED_SIZE, 4), IS(KC_REFUSED_CODE, 5), IS(KC_REFUSED_DEPTH, 6),
+    IS(KC_REFUSED_ROWS, 7), IS(KC_REFUSED_BODY, 8), IS(KC_REFUSED_COUNT, 9), IS(KC_REFUSED_CONTENTS, 10), IS(KC_REFUSED_NAME, 11),
     IS(KC_REFUSED_AFTER_TOP, 12), IS(KC_REFUSED_DATA_LENGTH, 20), IS(KC_REFUSED_DATA_END, 21), IS(KC_REFUSED_LENGTH, 22),
     IS(KC_REFUSED_ENUMERATION, 23), IS(KC_REFUSED_BOOLEAN, 24), IS(KC_REFUSED_LEFT_OVER, 25), IS(KC_REFUSED_STEP, 30),
-    IS(KC_REFUSED_NO_NUMBER, 31), IS(KC_REFUSED_READER, 40), IS(KC_REFUSED_WRITER, 41), IS(KC_REFUSED_MISSING, 42),
-    IS(KC_REFUSED_DOUBLED, 43), IS(KC_REFUSED_TYPE, 44), IS(KC_REFUSED_ROOM, 50), IS(KC_INPUT_NONE, 0), IS(KC_INPUT_FIRST, 1),
-    IS(KC_INPUT_WRITER, 1), IS(KC_INPUT_SECOND, 2), IS(KC_INPUT_READER, 2), IS(KC_INPUT_DATA, 3), IS(KC_INPUT_REQUEST, 4),
-    IS(KC_KIND_NONE, 0), IS(KC_KIND_UNSIGNED, 1), IS(KC_KIND_SIGNED, 2), IS(KC_KIND_SINGLE, 3), IS(KC_KIND_DOUBLE, 4),
-    IS(KC_KIND_FLAG, 5), IS(KC_MAX_DESCRIPTOR, 4096), IS(KC_MAX_ROWS, 256), IS(KC_MAX_DEPTH, 8), IS(KC_MAX_DIMENSIONS, 4),
-    IS(KC_MAX_UNIT_PAIRS, 9), IS(KC_MAX_BASE_INDEX, 8), IS(KC_MAX_DATA, 65536), IS(KC_MAX_LENGTH, 2147483647),
-    IS(KC_ANSWER_NUMBERS, 3), IS(KC_ROW_NUMBERS, 7), IS(KC_TABLE_NUMBERS, 1792),
+    IS(KC_REFUSED_NO_NUMBER, 31), IS(KC_REFUSED_DIFFERENCE, 32), IS(KC_REFUSED_READER, 40), IS(KC_REFUSED_WRITER, 41),
+    IS(KC_REFUSED_MISSING, 42), IS(KC_REFUSED_DOUBLED, 43), IS(KC_REFUSED_TYPE, 44), IS(KC_REFUSED_ROOM, 50), IS(KC_INPUT_NONE, 0),
+    IS(KC_INPUT_FIRST, 1), IS(KC_INPUT_WRITER, 1), IS(KC_INPUT_SECOND, 2), IS(KC_INPUT_READER, 2), IS(KC_INPUT_DATA, 3),
+    IS(KC_INPUT_REQUEST, 4), IS(KC_KIND_NONE, 0), IS(KC_KIND_UNSIGNED, 1), IS(KC_KIND_SIGNED, 2), IS(KC_KIND_SINGLE, 3),
+    IS(KC_KIND_DOUBLE, 4), IS(KC_KIND_FLAG, 5), IS(KC_MAX_DESCRIPTOR, 4096), IS(KC_MAX_ROWS, 256), IS(KC_MAX_DEPTH, 8),
+    IS(KC_MAX_DIMENSIONS, 4), IS(KC_MAX_UNIT_PAIRS, 9), IS(KC_MAX_BASE_INDEX, 8), IS(KC_MAX_DATA, 65536),
+    IS(KC_MAX_LENGTH, 2147483647), IS(KC_ANSWER_NUMBERS, 3), IS(KC_ROW_NUMBERS, 7), IS(KC_TABLE_NUMBERS, 1792),
 };
 
 static buffer first, second, data;
@@ -93,6 +93,20 @@ static void test_answers(void)
     }
 }
 
+/* The same of two time stamps, with seconds and fraction. */
+static void test_differences(void)
+{
+    for (size_t i = 0; i < STAMP_CASES; i++) {
+        const stamp_case *c = &stamp_cases[i];
+        const stamp *a = &c->first, *b = &c->second;
+        kc_difference d = kc_stamp_difference(a->seconds_high, a->seconds_low, a->fraction_high, a->fraction_low,
+                                              b->seconds_high, b->seconds_low, b->fraction_high, b->fraction_low);
+        uint32_t input = c->number == KC_ACCEPTED ? KC_INPUT_NONE : KC_INPUT_REQUEST;
+        report(d.answer.number == c->number && d.answer.input == input && d.answer.place == 0, "answer", c->what);
+        report(d.seconds == c->seconds && d.fraction == c->fraction, "difference", c->what);
+    }
+}
+
 typedef struct { const char *descriptor; unsigned code, count; } coded;
 
 /* Every code that has a body; the others have none. */
@@ -109,6 +123,7 @@ static const coded bodies[] = {
     { "0008 0030 FFFF FFFF", KC_CODE_STRING, 0 },
     { "000E 0040 0001 FFFF FFFF 0004 000A", KC_CODE_ARRAY, 1 },
     { "000E 0050 0002 0004 0002 0004 0007", KC_CODE_CLUSTER, 2 },
+    { "001C 0054 0006 0016 0050 0004 0004 0003 0004 0003 0004 0007 0004 0007", KC_CODE_TIME_STAMP, 0 },
 };
 
 static bool has_code(unsigned code, unsigned count)
@@ -233,6 +248,7 @@ int main(void)
     test_layout();
     test_constants();
     test_answers();
+    test_differences();
     test_codes();
     test_kind("0004 0006", "FFFE", KC_KIND_UNSIGNED, 0xFFFE);
     test_kind("0004 0002", "FFFE", KC_KIND_SIGNED, UINT64_MAX - 1);

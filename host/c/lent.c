@@ -11,14 +11,16 @@ typedef struct {
     const uint32_t *path;
     size_t first_len, second_len, data_len, path_len, out_len;
     bool out_null;
+    const stamp_case *stamps;
 } question;
 
 /* What a question leaves: each number and the output between guards, all of it painted before. It has no padding. */
 typedef struct {
-    uint64_t guard0[2], start, guard1[2], length, guard2[2], bits, guard3[2];
-    uint32_t guard4[3], answer[KC_ANSWER_NUMBERS], guard5[3], kind, guard6[2];
-    uint16_t guard7[8], table[KC_TABLE_NUMBERS], guard8[8];
-    uint8_t guard9[15], equal, guard10[16], out[CASE_ROOM], guard11[16];
+    uint64_t guard0[2], start, guard1[2], length, guard2[2], bits, guard3[2], fraction, guard4[2];
+    int64_t seconds, guard5[2];
+    uint32_t guard6[3], answer[KC_ANSWER_NUMBERS], guard7[3], kind, guard8[2];
+    uint16_t guard9[8], table[KC_TABLE_NUMBERS], guard10[8];
+    uint8_t guard11[15], equal, guard12[16], out[CASE_ROOM], guard13[16];
 } left;
 
 static uint8_t *out_of(const question *q, left *to)
@@ -137,6 +139,24 @@ static void read_record_into(const question *q, left *to)
     kc_read_record_into(q->first, q->first_len, q->second, q->second_len, q->data, q->data_len, out_of(q, to), q->out_len, to->answer);
 }
 
+static void stamp_difference(const question *q, left *to)
+{
+    const stamp *a = &q->stamps->first, *b = &q->stamps->second;
+    kc_difference d = kc_stamp_difference(a->seconds_high, a->seconds_low, a->fraction_high, a->fraction_low,
+                                          b->seconds_high, b->seconds_low, b->fraction_high, b->fraction_low);
+    set_answer(to, d.answer);
+    to->seconds = d.seconds;
+    to->fraction = d.fraction;
+}
+
+static void stamp_difference_into(const question *q, left *to)
+{
+    const stamp *a = &q->stamps->first, *b = &q->stamps->second;
+    kc_stamp_difference_into(a->seconds_high, a->seconds_low, a->fraction_high, a->fraction_low,
+                             b->seconds_high, b->seconds_low, b->fraction_high, b->fraction_low,
+                             to->answer, &to->seconds, &to->fraction);
+}
+
 typedef void ask(const question *q, left *to);
 
 typedef struct { const char *name; ask *by_struct, *by_numbers; int takes; } entry;
@@ -162,7 +182,7 @@ static question question_of(const one_case *c)
     fill(&first, c->first);
     fill(&second, c->reader);
     fill(&data, c->data);
-    question q = { first.bytes, second.bytes, data.bytes, c->path, first.length, second.length, data.length, c->path_len, c->room, false };
+    question q = { first.bytes, second.bytes, data.bytes, c->path, first.length, second.length, data.length, c->path_len, c->room, false, NULL };
     return q;
 }
 
@@ -186,6 +206,16 @@ static void test_lent(void)
             snprintf(what, sizeof what, "%s_into as %s", entries[e].name, entries[e].name);
             report(same(entries[e].by_struct, &q, entries[e].by_numbers, &q), what, cases[i].what);
         }
+    }
+}
+
+/* The one question that takes no array. */
+static void test_stamps(void)
+{
+    question q = question_of(&cases[0]);
+    for (size_t i = 0; i < STAMP_CASES; i++) {
+        q.stamps = &stamp_cases[i];
+        report(same(stamp_difference, &q, stamp_difference_into, &q), "kc_stamp_difference_into as kc_stamp_difference", q.stamps->what);
     }
 }
 
@@ -244,8 +274,9 @@ static void test_null(void)
 
 int main(void)
 {
-    report(sizeof(left) == 11 * 8 + 12 * 4 + (16 + KC_TABLE_NUMBERS) * 2 + 48 + CASE_ROOM, "no padding between the guards", "");
+    report(sizeof(left) == 17 * 8 + 12 * 4 + (16 + KC_TABLE_NUMBERS) * 2 + 48 + CASE_ROOM, "no padding between the guards", "");
     test_lent();
+    test_stamps();
     test_null();
     return all_ok ? 0 : 1;
 }

@@ -4,8 +4,8 @@
  * Each entry is asked on a thread whose stack is a painted buffer, and the paint that is left says how deep it went; what a thread uses
  * that calls an empty function instead is taken off. The inputs are every nesting of arrays and clusters up to one level too many, with
  * each kind of value innermost and with and without others beside it, and a cluster of many members; each is asked whole, cut at every
- * byte and with every byte changed, in its descriptor and in its data. Then the deepest are asked on the smallest stack of a thread,
- * and of the one entry that needs more on a larger one.
+ * byte and with every byte changed, in its descriptor and in its data. The difference of time stamps is asked of stamps near and far with
+ * each of these. Then the deepest are asked on the smallest stack of a thread, and of the one entry that needs more on a larger one.
  */
 #define _DEFAULT_SOURCE
 #include <kerbcanopy.h>
@@ -29,10 +29,12 @@ enum {
     TO_LITTLE_ENDIAN,
     FROM_LITTLE_ENDIAN,
     READ_RECORD,
+    STAMP_DIFFERENCE,
     INTO, /* from here on those that fill lent numbers, in the same order */
     ENTRIES = 2 * INTO,
     NOTHING = ENTRIES, /* the empty function, called as the first are */
-    NOTHING_INTO       /* and as the others are */
+    NOTHING_INTO,      /* as the others are */
+    NOTHING_CHECKED    /* and as the first of all is */
 };
 
 enum {
@@ -56,6 +58,7 @@ static const char *const names[ENTRIES] = {
     "kc_to_little_endian",
     "kc_from_little_endian",
     "kc_read_record",
+    "kc_stamp_difference",
     "kc_check_descriptor_into",
     "kc_compare_into",
     "kc_normal_form_into",
@@ -65,6 +68,7 @@ static const char *const names[ENTRIES] = {
     "kc_to_little_endian_into",
     "kc_from_little_endian_into",
     "kc_read_record_into",
+    "kc_stamp_difference_into",
 };
 
 typedef struct {
@@ -83,7 +87,19 @@ static uint32_t path[STEPS];
 static uint8_t out[ROOM];
 static question questions[QUESTIONS];
 static size_t question_count;
-static size_t answers[NOTHING_INTO + 1][64];
+static size_t answers[NOTHING_CHECKED + 1][64];
+
+/* A time stamp: the halves of its seconds, and either half of its fraction. */
+typedef struct {
+    int32_t high, low;
+    uint32_t fraction;
+} stamp;
+
+/* The stamp of a number: its seconds at either end or about 0, its fraction none or the highest. */
+static stamp stamp_of(size_t number) {
+    static const int32_t highs[] = {0, -1, INT32_MIN, INT32_MAX};
+    return (stamp){highs[number % 4], number / 4 % 2 ? -1 : 0, number / 8 % 2 ? UINT32_MAX : 0};
+}
 
 static void do_nothing(void) {}
 static void (*volatile nothing)(void) = do_nothing;
@@ -99,10 +115,9 @@ static void count(int entry, uint32_t number) {
 static void ask(int entry, const question *q) {
     static kc_answer answer;
     const uint8_t *f = first.bytes, *s = second.bytes, *d = data.bytes;
+    const size_t number = (size_t)(q - questions);
+    const stamp a = stamp_of(number), b = stamp_of(number / 16);
     switch (entry) {
-    case CHECK_DESCRIPTOR:
-        answer = kc_check_descriptor(f, q->first_len).answer;
-        break;
     case COMPARE:
         answer = kc_compare(f, q->first_len, s, second.length).answer;
         break;
@@ -127,6 +142,9 @@ static void ask(int entry, const question *q) {
     case READ_RECORD:
         answer = kc_read_record(f, q->first_len, s, second.length, d, q->data_len, out, q->room);
         break;
+    case STAMP_DIFFERENCE:
+        answer = kc_stamp_difference(a.high, a.low, a.fraction, a.fraction, b.high, b.low, b.fraction, b.fraction).answer;
+        break;
     default:
         nothing();
     }
@@ -137,9 +155,12 @@ static void ask(int entry, const question *q) {
 static void ask_into(int entry, const question *q) {
     static uint32_t answer[KC_ANSWER_NUMBERS], kind;
     static uint16_t table[KC_TABLE_NUMBERS];
-    static uint64_t start, length, bits;
+    static uint64_t start, length, bits, fraction;
+    static int64_t seconds;
     static uint8_t equal;
     const uint8_t *f = first.bytes, *s = second.bytes, *d = data.bytes;
+    const size_t number = (size_t)(q - questions);
+    const stamp a = stamp_of(number), b = stamp_of(number / 16);
     switch (entry - INTO) {
     case CHECK_DESCRIPTOR:
         kc_check_descriptor_into(f, q->first_len, answer, table);
@@ -168,19 +189,34 @@ static void ask_into(int entry, const question *q) {
     case READ_RECORD:
         kc_read_record_into(f, q->first_len, s, second.length, d, q->data_len, out, q->room, answer);
         break;
+    case STAMP_DIFFERENCE:
+        kc_stamp_difference_into(a.high, a.low, a.fraction, a.fraction, b.high, b.low, b.fraction, b.fraction, answer, &seconds, &fraction);
+        break;
     default:
         nothing();
     }
     count(entry, answer[0]);
 }
 
-/* Whether an entry, or the empty function, is called as those are that fill lent numbers. */
-static bool is_into(int entry) {
+/* The same for the one entry whose struct, in the frame here, is as large as a small stack's quarter. */
+static void ask_checked(int entry, const question *q) {
+    static kc_answer answer;
+    if (entry == CHECK_DESCRIPTOR)
+        answer = kc_check_descriptor(first.bytes, q->first_len).answer;
+    else
+        nothing();
+    count(entry, answer.number);
+}
+
+/* Which of the three functions asks an entry, or calls the empty function. */
+static int asked_by(int entry) {
+    if (entry == CHECK_DESCRIPTOR || entry == NOTHING_CHECKED)
+        return 2;
     return entry >= INTO && entry != NOTHING;
 }
 
-/* Called through pointers that may change, so that neither function's frame becomes part of its caller's. */
-static void (*volatile asking[])(int entry, const question *q) = {ask, ask_into};
+/* Called through pointers that may change, so that no function's frame becomes part of its caller's. */
+static void (*volatile asking[])(int entry, const question *q) = {ask, ask_into, ask_checked};
 
 typedef struct {
     int entry;
@@ -195,7 +231,7 @@ static void *answer_all(void *argument) {
         uint8_t *changed = questions[i].changed;
         if (changed)
             *changed ^= 0xFF;
-        asking[is_into(t->entry)](t->entry, &questions[i]);
+        asking[asked_by(t->entry)](t->entry, &questions[i]);
         if (changed)
             *changed ^= 0xFF;
     }
@@ -268,13 +304,13 @@ static void put_descriptor(buffer *b, unsigned reserved, unsigned code, const bu
     put(b, pascal, 2);
 }
 
-/* The kinds that stand innermost: Boolean, enumeration, double, complex single, quantity, string. */
-static const char leaves[] = "bedxqs";
+/* The kinds that stand innermost: Boolean, enumeration, double, complex single, quantity, string, time stamp. */
+static const char leaves[] = "bedxqst";
 
 /* A kind's descriptor and one value of it. */
 static void put_leaf(char kind, unsigned reserved, uint8_t name, buffer *type, buffer *value) {
     static const struct {
-        uint8_t code, body_length, value_length, body[6], value[8];
+        uint8_t code, body_length, value_length, body[24], value[16];
     } kinds[] = {
         {0x21, 0, 1, {0}, {1}},
         {0x16, 4, 2, {0, 1, 1, 'e'}, {0, 0}},
@@ -282,6 +318,7 @@ static void put_leaf(char kind, unsigned reserved, uint8_t name, buffer *type, b
         {0x0C, 0, 8, {0}, {0x3F, 0x80, 0, 0, 0x40, 0, 0, 0}},
         {0x1A, 6, 8, {0, 1, 0, 2, 0xFF, 0xFF}, {0x3F, 0xF0, 0, 0, 0, 0, 0, 0}},
         {0x30, 4, 6, {0xFF, 0xFF, 0xFF, 0xFF}, {0, 0, 0, 2, 'o', 'k'}},
+        {0x54, 24, 16, {0, 6, 0, 22, 0, 0x50, 0, 4, 0, 4, 0, 3, 0, 4, 0, 3, 0, 4, 0, 7, 0, 4, 0, 7}, {0, 0, 0, 0, 0xDA}},
     };
     size_t i = (size_t)(strchr(leaves, kind) - leaves);
     buffer body = {.length = 0};
@@ -369,7 +406,7 @@ static void prepare(const nesting *n) {
 
 /* What a thread uses without the entry. */
 static size_t used_without(uint8_t *stack, size_t size, int entry) {
-    return used(stack, size, is_into(entry) ? NOTHING_INTO : NOTHING);
+    return used(stack, size, NOTHING + asked_by(entry));
 }
 
 static size_t deepest[ENTRIES]; /* above what a thread uses by itself */
@@ -404,8 +441,9 @@ static void measure_all(uint8_t *stack) {
         for (const char *leaf = leaves; *leaf; leaf++)
             for (size_t count = 0; count <= LEVELS; count++)
                 measure_levels(stack, (nesting){"", *leaf, beside[b][0], beside[b][1]}, count);
+    /* No time stamp among them: each takes six rows. */
     for (size_t i = 0; i < MEMBERS; i++)
-        many[i] = leaves[i % strlen(leaves)];
+        many[i] = leaves[i % (strlen(leaves) - 1)];
     measure_levels(stack, (nesting){"", 'b', many, ""}, 1);
 }
 
@@ -462,6 +500,7 @@ static bool answered(void) {
     static const unsigned numbers[INTO][16] = {
         {2, 4, 6, 11, 12}, {2, 4, 6, 11, 12}, {6, 12, 50}, {6, 12, 21, 22, 23, 24, 25}, {6, 21, 22, 23, 24, 25, 30},
         {6, 21, 22, 23, 24, 25, 30, 31}, {6, 21, 22, 23, 24, 25, 50}, {6, 21, 22, 23, 24, 25, 50}, {6, 21, 22, 23, 24, 25, 40, 44, 50},
+        {32},
     };
     bool good = true;
     for (int e = 0; e < ENTRIES; e++) {

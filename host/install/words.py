@@ -49,8 +49,9 @@ def options(usage):
 
 
 def files(usage):
-    """How many files a usage takes."""
-    return len(re.findall(r"\b[A-Z]+\b(?!\.\.)", re.sub(r"\[-[^\]]+\]", "", usage)))
+    """The places of the files among the words of a usage; a path is none."""
+    words = re.findall(r"\b[A-Z]+\b(?!\.\.)", re.sub(r"\[-[^\]]+\]", "", usage))
+    return {place for place, word in enumerate(words) if word != "PATH"}
 
 
 def section(page, name):
@@ -94,8 +95,8 @@ def completion(shell, all_usages):
     for name, usage in all_usages.items():
         expected = {option.split()[0] for option in options(usage)} | COMMON
         agree(f"{shell}: the options of {name}", completed(shell, name, "-"), expected)
-        offered = [listed(name, *["x"] * count, "") for count in range(5)]
-        agree(f"{shell}: the files of {name}", offered, [here if count < files(usage) else set() for count in range(5)])
+        offered = [listed(name, *["x"] * count, "") for count in range(7)]
+        agree(f"{shell}: the files of {name}", offered, [here if count in files(usage) else set() for count in range(7)])
     agree(f"{shell}: a file behind -o", listed("normal", "x", "-o", ""), here)
     agree(f"{shell}: a number behind --room", completed(shell, "normal", "--room", ""), set())
     agree(f"{shell}: a file behind --", listed("check", "--", ""), here)
@@ -109,6 +110,10 @@ def refused():
     uses.update({number: ("data", descriptor, sent) for number, (descriptor, sent, _) in cases.DATAS.items()})
     uses.update({number: ("read", *lent) for number, (*lent, _, _) in cases.RECORDS.items()})
     uses.update({30: ("view", rig, data, "7"), 31: ("value", rig, data), 50: ("normal", rig, "--room=0")})
+    # An array of time stamps: the latest there is, and one a day before 1904.
+    stamps = bytes.fromhex("00260040 0001FFFFFFFF 001C0054 0006 00160050 0004 00040003 00040003 00040007 00040007")
+    far = bytes.fromhex("00000002 7FFFFFFFFFFFFFFF 0000000000000000 FFFFFFFFFFFEAE80 0000000000000000")
+    uses[32] = ("difference", stamps, far, "0", "1")
     return uses
 
 

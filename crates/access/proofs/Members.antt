@@ -1,4 +1,4 @@
--- A step into a cluster of accepted data: what the loop over the members before it keeps is that the spot from here on is the spot from
+-- A step into a compound of accepted data: what the loop over the members before it keeps is that the spot from here on is the spot from
 -- the start. Rests on the laws of types in a row.
 use mathlib.Core.Path.{_≡_, sym, ap, subst, _∙_}
 use mathlib.Core.Bool.{true}

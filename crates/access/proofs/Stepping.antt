@@ -1,16 +1,18 @@
--- A step into a value of accepted data, by the kind of its type: into an array, into a cluster, or nowhere. Rests on what types are made of.
+-- A step into a value of accepted data, by the kind of its type: into an array, into a compound, or nowhere. Rests on what types are made of.
 use mathlib.Core.Path.{_≡_, refl, sym, ap, subst, _∙_}
-use mathlib.Core.Bool.{true}
+use mathlib.Core.Bool.{true, false}
 use mathlib.Core.List.{List}
 use Prim.Native.Nat.{ℕ, _+_, _-_, _<_, _≤_}
 use native.Mathlib.Omega.{arith}
-use Rattle.descriptor.specs.Codes.{array, cluster, kindOf}
+use Rattle.descriptor.specs.Codes.{array, kindOf}
 use Rattle.descriptor.specs.Header.{codeIn}
 use Rattle.descriptor.specs.Limits.{depthLimit, dimensionLimit}
 use Rattle.descriptor.specs.Outcome.{Outcome, refused}
-use Rattle.descriptor.specs.Tree.{Fields, empty, items, pairs, text, dimensions, members, Tree, node, Forest, nil, cons, countOf, childCount}
+use Rattle.descriptor.specs.Tree.{Fields, empty, items, pairs, text, dimensions, members, subtype, Tree, node, Forest, nil, cons, countOf, childCount}
+use Rattle.descriptor.specs.inner.Steps.{isCompound}
 use Rattle.descriptor.specs.inner.Standing.{isRead, nextOf, insideOf}
 use Rattle.descriptor.specs.declared.inside.Inside.{Inside}
+use Rattle.descriptor.proofs.Steps.{impossible}
 use Rattle.flattened.specs.Order.{big}
 use Rattle.flattened.specs.Token.{Token}
 use Rattle.flattened.specs.Walk.{walk, walkAll}
@@ -18,8 +20,8 @@ use Rattle.flattened.specs.inner.Arrays.{elementsAt}
 use Rattle.flattened.specs.inner.Cursor.{cursor}
 use Rattle.flattened.specs.inner.Types.{typeAt, typesAt, TypeStands, RowStands, fieldsKind}
 use Rattle.flattened.specs.declared.cursor.Cursor.{Cursor}
-use Rattle.flattened.proofs.Arms.{walk-array, walk-cluster, walk-one}
-use Rattle.flattened.proofs.Cases.{hasInside, counted-inside, types-inside, row-inside}
+use Rattle.flattened.proofs.Arms.{walk-array, walk-compound, walk-one}
+use Rattle.flattened.proofs.Cases.{hasInside, compound-inside, counted-inside, types-inside, row-inside}
 use Rattle.flattened.proofs.Types.{TypeMade, type-made, type-deep, Counted}
 use Rattle.access.specs.Path.{memberAt, stepAt, stepInto}
 use Rattle.access.specs.inner.Past.{pastValues, pastArray}
@@ -39,24 +41,27 @@ module _ (i : ℕ) (f : Forest) (k : ℕ) (s : List ℕ) (at : ℕ) where
   step-array text e = cc
   step-array (dimensions n) e = refl
   step-array (members n) e = cc
+  step-array subtype e = cc
 
-  step-cluster : (b : Fields) → fieldsKind b ≡ cluster → stepAt i b f k s at ≡ memberAt i f k s at
+  step-compound : (b : Fields) → isCompound (fieldsKind b) ≡ true → stepAt i b f k s at ≡ memberAt i f k s at
   unfolding fieldsKind stepAt
-  step-cluster empty e = cc
-  step-cluster (items xs) e = cc
-  step-cluster (pairs ps) e = cc
-  step-cluster text e = cc
-  step-cluster (dimensions n) e = cc
-  step-cluster (members n) e = refl
+  step-compound empty e = impossible e
+  step-compound (items xs) e = impossible e
+  step-compound (pairs ps) e = impossible e
+  step-compound text e = impossible e
+  step-compound (dimensions n) e = impossible e
+  step-compound (members n) e = refl
+  step-compound subtype e = refl
 
-  step-other : (b : Fields) → (array ≡ fieldsKind b → ⊥) → (cluster ≡ fieldsKind b → ⊥) → stepAt i b f k s at ≡ refused 30 i
+  step-other : (b : Fields) → (array ≡ fieldsKind b → ⊥) → isCompound (fieldsKind b) ≡ false → stepAt i b f k s at ≡ refused 30 i
   unfolding fieldsKind stepAt
   step-other empty a c = refl
   step-other (items xs) a c = refl
   step-other (pairs ps) a c = refl
   step-other text a c = refl
   step-other (dimensions n) a c = absurd (a refl)
-  step-other (members n) a c = absurd (c refl)
+  step-other (members n) a c = impossible (sym c)
+  step-other subtype a c = impossible (sym c)
 
 -- an array has one type inside, and from one to four dimensions
 array-children : (b : Fields) → fieldsKind b ≡ array → childCount b ≡ 1
@@ -67,6 +72,7 @@ array-children (pairs ps) e = cc
 array-children text e = cc
 array-children (dimensions n) e = refl
 array-children (members n) e = cc
+array-children subtype e = cc
 
 array-few : (b : Fields) → fieldsKind b ≡ array → Counted b → countOf b ≤ dimensionLimit
 unfolding fieldsKind countOf Counted
@@ -76,6 +82,7 @@ array-few (pairs ps) e c = absurd (let z : _≡_ {A = ℕ} 0 1 = cc in omega ari
 array-few text e c = omega arith
 array-few (dimensions n) e c = c .1
 array-few (members n) e c = absurd (let z : _≡_ {A = ℕ} 0 1 = cc in omega arith)
+array-few subtype e c = omega arith
 
 -- the steps before leave at least one level
 pub shallow : {d : List ℕ} {p i : ℕ} → TypeStands d p (depthLimit - i) → i < depthLimit
@@ -92,10 +99,10 @@ module _ (d : List ℕ) (p i k : ℕ) (s : List ℕ) (at : ℕ) (lies : Lies d p
   whole = ap (λ (t : Tree). isRead (walk big t s at)) (sym (made .tree)) ∙ lies .read
 
   -- nothing stands inside
-  pub step-none : (array ≡ kindOf (codeIn d p) → ⊥) → (cluster ≡ kindOf (codeIn d p) → ⊥) → Reaches d (depthLimit - (i + 1)) s (stepInto i (typeAt d p) k s at) (Lost i)
+  pub step-none : (array ≡ kindOf (codeIn d p) → ⊥) → isCompound (kindOf (codeIn d p)) ≡ false → Reaches d (depthLimit - (i + 1)) s (stepInto i (typeAt d p) k s at) (Lost i)
   unfolding reached Known
   step-none a c = record {
-    eq = sym (stepped ∙ step-other i (made .inner) k s at (made .fields) (λ e. a (e ∙ made .kind)) (λ e. c (e ∙ made .kind)));
+    eq = sym (stepped ∙ step-other i (made .inner) k s at (made .fields) (λ e. a (e ∙ made .kind)) (ap isCompound (made .kind) ∙ c));
     known = shallow (lies .type);
   }
 
@@ -106,29 +113,27 @@ module _ (d : List ℕ) (p i k : ℕ) (s : List ℕ) (at : ℕ) (lies : Lies d p
     row : hasInside (kindOf (codeIn d p)) ≡ true → RowStands d (inside .children) (inside .at) (depthLimit - (i + 1))
     row has = subst (λ (n : ℕ). RowStands d (inside .children) (inside .at) n) less (row-inside d p (depthLimit - i) (lies .type) inside seen has)
 
-    -- a cluster
-    module _ (kind : cluster ≡ kindOf (codeIn d p)) where
+    -- a compound
+    module _ (kind : isCompound (kindOf (codeIn d p)) ≡ true) where
       inner : typesAt d (inside .children) (inside .at) ≡ made .inner
-      unfolding hasInside
-      inner = types-inside d p (lies .type .here) inside seen (sym (ap hasInside kind))
+      inner = types-inside d p (lies .type .here) inside seen (compound-inside _ kind)
 
-      pub cluster-lies : RowLies d (inside .children) (inside .at) (depthLimit - (i + 1)) s at
-      unfolding hasInside
-      cluster-lies = record {
-        row = row (sym (ap hasInside kind));
+      pub compound-lies : RowLies d (inside .children) (inside .at) (depthLimit - (i + 1)) s at
+      compound-lies = record {
+        row = row (compound-inside _ kind);
         bytes = lies .bytes;
         read =
             ap (λ (f : Forest). isRead (walkAll big f s at)) inner
-            ∙ ap isRead (sym (walk-cluster (made .code) (made .fields) (made .inner) (made .name) big s at (made .kind ∙ sym kind)))
+            ∙ ap isRead (sym (walk-compound (made .code) (made .fields) (made .inner) (made .name) big s at (ap isCompound (made .kind) ∙ kind)))
             ∙ whole;
       }
 
-      pub cluster-reached : (r : Reach) → Reaches d (depthLimit - (i + 1)) s (memberAt i (typesAt d (inside .children) (inside .at)) k s at) r
+      pub compound-reached : (r : Reach) → Reaches d (depthLimit - (i + 1)) s (memberAt i (typesAt d (inside .children) (inside .at)) k s at) r
           → Reaches d (depthLimit - (i + 1)) s (stepInto i (typeAt d p) k s at) r
-      cluster-reached r met = record {
+      compound-reached r met = record {
         eq = met .eq
             ∙ ap (λ (f : Forest). memberAt i f k s at) inner
-            ∙ sym (stepped ∙ step-cluster i (made .inner) k s at (made .fields) (made .kind ∙ sym kind));
+            ∙ sym (stepped ∙ step-compound i (made .inner) k s at (made .fields) (ap isCompound (made .kind) ∙ kind));
         known = met .known;
       }
 

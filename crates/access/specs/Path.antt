@@ -5,7 +5,7 @@ use Prim.Native.Nat.{ℕ, zero, suc, _+_, _-_}
 use lib.Dec.{ltb}
 use lib.Seq.{slice}
 use denote.Ref.{RefT, ptr}
-use Rattle.descriptor.specs.Tree.{Fields, empty, items, pairs, text, dimensions, members, Tree, node, Forest, nil, cons}
+use Rattle.descriptor.specs.Tree.{Fields, empty, items, pairs, text, dimensions, members, subtype, Tree, node, Forest, nil, cons}
 use Rattle.descriptor.specs.Outcome.{Outcome, refused, read, andThen, require, judge}
 use Rattle.descriptor.specs.Check.{checked}
 use Rattle.descriptor.specs.Answers.{refusal, accepted}
@@ -34,6 +34,8 @@ stepAt i (dimensions d) f k s at =
     andThen (arrayAt big s d at)
     (λ next n. require (ltb k n) 30 i (andThen (repeat (λ p. walkAll big f s p) k next) (λ start _. memberAt i f zero s start)))
 stepAt i (members n) f k s at = memberAt i f k s at
+-- document 02, CR 1: "Its one part, step 0, is that cluster"
+stepAt i subtype f k s at = memberAt i f k s at
 
 abbrev pub stepInto : ℕ → Tree → ℕ → List ℕ → ℕ → Outcome Spot
 stepInto i (node c b f m) k s at = stepAt i b f k s at

@@ -3,6 +3,7 @@ use super::past::past;
 use super::past::past_member;
 use super::reach::Reach;
 use descriptor::codes::Kind;
+use descriptor::codes::is_compound;
 use descriptor::codes::kind_of;
 use descriptor::header::code_at;
 use descriptor::header::size_at;
@@ -63,12 +64,13 @@ fn step(d: &[u8], p: usize, k: usize, i: usize, s: &[u8], from: Cursor) -> Reach
     requires { ⌜ k < 2 ^ 32 ⌝ }
     ensures { λ r. ⌜ Reaches (now (d .entry)) (depthLimit - (i + 1)) (now (s .entry)) (stepInto i (typeAt (now (d .entry)) p) k (now (s .entry)) (from .at)) r ⌝ }
 {
-    let kind = kind_of(code_at(d, p));
+    let code = code_at(d, p);
+    let kind = kind_of(code);
     if let Kind::Array = kind {
         let inside = inside_of(d, p);
         return element(d, inside.at, inside.count, k, i, s, from);
     }
-    if let Kind::Cluster = kind {
+    if is_compound(code) {
         let inside = inside_of(d, p);
         return member(d, inside.at, inside.children, k, i, s, from);
     }

@@ -11,7 +11,7 @@ use lib.ListN.{length, getD}
 use Rattle.descriptor.specs.Codes.{booleanCode}
 use Rattle.descriptor.specs.Limits.{lengthLimit}
 use Rattle.descriptor.specs.Outcome.{Outcome}
-use Rattle.descriptor.specs.Tree.{Fields, empty, items, pairs, text, dimensions, members, Tree, node, Forest, nil, cons}
+use Rattle.descriptor.specs.Tree.{Fields, empty, items, pairs, text, dimensions, members, subtype, Tree, node, Forest, nil, cons}
 use Rattle.descriptor.specs.Width.{widthOf}
 use Rattle.descriptor.proofs.Outcomes.{Holds, found, holds-require, holds-andThen}
 use Rattle.flattened.specs.Order.{Order, numberAt}
@@ -79,6 +79,7 @@ module _ (s : List ℕ) where
       holds-andThen (repeat-chain inside each n next (e .1)) (λ last ts r.
       found (record { chain = link refl (omega (arith, some .0, e .0)) (r .chain); inside = r .inside })))
   fields-chain o c (members k) f inside some each at h = each at h
+  fields-chain o c subtype f inside some each at h = each at h
 
   mutual
     unfolding walk Solid

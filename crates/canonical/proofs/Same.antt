@@ -5,8 +5,8 @@ use mathlib.Core.List.{List, [], _∷_}
 use Prim.Native.Nat.{ℕ}
 use borrow.Author.Tests.{eqb-true, eq-eqb}
 use lib.Dec.{eqb}
-use Rattle.descriptor.specs.Codes.{Kind, plain, enumeration, quantity, string, array, cluster, unknown, kindOf}
-use Rattle.descriptor.specs.Tree.{Name, unnamed, named, Pair, Fields, empty, items, pairs, text, dimensions, members, Tree, node, Forest, nil, cons, countOf}
+use Rattle.descriptor.specs.Codes.{Kind, plain, enumeration, quantity, string, array, cluster, stamp, unknown, kindOf}
+use Rattle.descriptor.specs.Tree.{Name, unnamed, named, Pair, Fields, empty, items, pairs, text, dimensions, members, subtype, Tree, node, Forest, nil, cons, countOf}
 use Rattle.descriptor.specs.Encoding.{FieldsFit, WellFormed, AllWellFormed}
 use Rattle.descriptor.proofs.Sizes.{and-true, both-true}
 use Rattle.descriptor.proofs.Steps.{impossible}
@@ -76,6 +76,7 @@ rebuilt quantity n xs ps = pairs ps
 rebuilt string n xs ps = text
 rebuilt array n xs ps = dimensions n
 rebuilt cluster n xs ps = members n
+rebuilt stamp n xs ps = subtype
 rebuilt unknown n xs ps = empty
 
 -- fields that fit their kind are what these say
@@ -87,6 +88,7 @@ fields-rebuilt k (pairs ps) e = ap (λ (j : Kind). rebuilt j (countOf (pairs ps)
 fields-rebuilt k text e = ap (λ (j : Kind). rebuilt j 0 [] []) e
 fields-rebuilt k (dimensions d) e = ap (λ (j : Kind). rebuilt j d [] []) (e .0)
 fields-rebuilt k (members n) e = ap (λ (j : Kind). rebuilt j n [] []) (e .0)
+fields-rebuilt k subtype e = ap (λ (j : Kind). rebuilt j 0 [] []) e
 
 -- the fields of two bodies of one kind that compare equal are equal
 fields-same : (k l : Kind) (a b : Fields) → k ≡ l → FieldsFit k a → FieldsFit l b → sameFields a b ≡ true → a ≡ b

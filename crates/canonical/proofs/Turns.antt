@@ -8,7 +8,7 @@ use native.Mathlib.Nat.{sub-zero}
 use native.Mathlib.Omega.{arith}
 use lib.ListN.{length}
 use Rattle.descriptor.specs.Header.{headerSize, bodyAt, sizeIn}
-use Rattle.descriptor.specs.Tree.{Name, Fields, empty, items, pairs, text, dimensions, members, Tree, node, Forest, cons, childCount, insideAt, treeSize, forestSize, height, forestHeight}
+use Rattle.descriptor.specs.Tree.{Name, Fields, empty, items, pairs, text, dimensions, members, subtype, Tree, node, Forest, cons, childCount, insideAt, treeSize, forestSize, height, forestHeight}
 use Rattle.descriptor.specs.Outcome.{Outcome, refused, read}
 use Rattle.descriptor.specs.inner.Promises.{addressable}
 use Rattle.descriptor.specs.inner.Standing.{standing, standingRow, isRead, nextOf, forestOf, fieldsOf, contentsStart, insideOf, Stands}
@@ -128,6 +128,7 @@ starts p (pairs ps) h = refl
 starts p text h = refl
 starts p (dimensions k) h = refl
 starts p (members k) h = refl
+starts p subtype h = refl
 
 -- the same turn by what the code has read: the size, and what stands inside
 pub record Taken (s : List ℕ) (j p stop levels size : ℕ) (f : Inside) : Type 0 where

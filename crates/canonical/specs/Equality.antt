@@ -3,7 +3,7 @@ use mathlib.Core.Bool.{Bool, true, false, _&&_}
 use mathlib.Core.List.{List, [], _∷_}
 use Prim.Native.Nat.{ℕ}
 use lib.Dec.{eqb}
-use Rattle.descriptor.specs.Tree.{Name, unnamed, named, Pair, Fields, empty, items, pairs, text, dimensions, members, Tree, node, Forest, nil, cons, countOf}
+use Rattle.descriptor.specs.Tree.{Name, unnamed, named, Pair, Fields, empty, items, pairs, text, dimensions, members, subtype, Tree, node, Forest, nil, cons, countOf}
 use Rattle.descriptor.specs.Outcome.{judge}
 use Rattle.descriptor.specs.Check.{checked}
 use Rattle.descriptor.specs.Answers.{refusal, accepted}
@@ -39,6 +39,7 @@ itemsOf (pairs ps) = []
 itemsOf text = []
 itemsOf (dimensions d) = []
 itemsOf (members k) = []
+itemsOf subtype = []
 
 -- a body's pairs, none where it has none
 unfoldable pub pairsOf : Fields → List Pair
@@ -48,6 +49,7 @@ pairsOf (pairs ps) = ps
 pairsOf text = []
 pairsOf (dimensions d) = []
 pairsOf (members k) = []
+pairsOf subtype = []
 
 -- "counts, items, pairs"
 abbrev pub sameFields : Fields → Fields → Bool

@@ -9,7 +9,7 @@ use native.Mathlib.Omega.{arith}
 use borrow.Author.Tests.{eqb-true, ne-eqb}
 use lib.Dec.{eqb}
 use lib.ListN.{length}
-use Rattle.descriptor.specs.Tree.{empty, items, pairs, text, dimensions, members, Tree, node, Forest, nil, cons, treeSize}
+use Rattle.descriptor.specs.Tree.{empty, items, pairs, text, dimensions, members, subtype, Tree, node, Forest, nil, cons, treeSize}
 use Rattle.descriptor.specs.Width.{widthOf}
 use Rattle.descriptor.proofs.Steps.{impossible}
 use Rattle.flattened.specs.inner.Extent.{joint, least, extentFields, extentOf, extentAll}
@@ -55,6 +55,7 @@ mutual
   type-total (node c text f m) e = impossible e
   type-total (node c (dimensions k) f m) e = impossible e
   type-total (node c (members k) f m) e = row-total f e
+  type-total (node c subtype f m) e = row-total f e
 
   row-total : (f : Forest) → isFixed (extentAll f) ≡ true → total (numbersAll f) ≡ least (extentAll f)
   row-total nil e = refl
@@ -87,6 +88,7 @@ mutual
   type-wide (node c text f m) solid = tt
   type-wide (node c (dimensions k) f m) solid = tt
   type-wide (node c (members k) f m) solid = row-wide f (solid .1)
+  type-wide (node c subtype f m) solid = row-wide f (solid .1)
 
   row-wide : (f : Forest) → AllSolid f → EachWide (numbersAll f)
   row-wide nil solid = tt

@@ -10,15 +10,17 @@ use native.Mathlib.Omega.{arith}
 use borrow.Author.Tests.{eq-eqb, ne-eqb, eqb-true}
 use lib.Dec.{eqb}
 use lib.ListN.{length}
-use Rattle.descriptor.specs.Codes.{cluster, kindOf, isComplex}
+use Rattle.descriptor.specs.Codes.{kindOf, isComplex}
 use Rattle.descriptor.specs.Header.{sizeIn, codeIn}
-use Rattle.descriptor.specs.Tree.{Name, Fields, empty, items, pairs, text, dimensions, members, Tree, node, Forest, nil, cons}
+use Rattle.descriptor.specs.Tree.{Name, Fields, empty, items, pairs, text, dimensions, members, subtype, Tree, node, Forest, nil, cons}
 use Rattle.descriptor.specs.Width.{widthOf}
+use Rattle.descriptor.specs.inner.Steps.{isCompound}
 use Rattle.descriptor.specs.inner.Standing.{forestOf, insideOf, Stands}
 use Rattle.descriptor.specs.declared.inside.Inside.{Inside}
 use Rattle.descriptor.proofs.Standing.{row-none}
+use Rattle.descriptor.proofs.Steps.{impossible}
 use Rattle.flattened.specs.inner.Types.{typeAt, typesAt, TypeStands, RowStands, fieldsKind}
-use Rattle.flattened.proofs.Cases.{it, is-measured, not-measured, types-inside, hasInside}
+use Rattle.flattened.proofs.Cases.{it, is-measured, not-measured, types-inside, compound-inside}
 use Rattle.flattened.proofs.Codes.{isMeasured}
 use Rattle.flattened.proofs.Types.{RowTurn, row-turn}
 use Rattle.byteorder.specs.Reversal.{numberCount, numberWidth}
@@ -27,7 +29,7 @@ use Rattle.columns.proofs.ColumnTurns.{spread-as}
 use Rattle.byteorder.proofs.Widths.{numbers-all}
 use Rattle.columns.proofs.Elements.{total-append, total-copies, columns-append, columns-length}
 
--- of a scalar's fields, a cluster's, and others
+-- of a scalar's fields, a compound's, and others
 fields-scalar : (c : ℕ) (b : Fields) (ws : List ℕ) → isMeasured (fieldsKind b) ≡ true → numbersFields c b ws ≡ copies (numberCount c) (numberWidth c)
 unfolding isMeasured fieldsKind numbersFields
 fields-scalar c empty ws e = refl
@@ -36,24 +38,27 @@ fields-scalar c (pairs ps) ws e = refl
 fields-scalar c text ws e = cc
 fields-scalar c (dimensions k) ws e = cc
 fields-scalar c (members k) ws e = cc
+fields-scalar c subtype ws e = cc
 
-fields-cluster : (c : ℕ) (b : Fields) (ws : List ℕ) → fieldsKind b ≡ cluster → numbersFields c b ws ≡ ws
+fields-compound : (c : ℕ) (b : Fields) (ws : List ℕ) → isCompound (fieldsKind b) ≡ true → numbersFields c b ws ≡ ws
 unfolding fieldsKind numbersFields
-fields-cluster c empty ws e = cc
-fields-cluster c (items xs) ws e = cc
-fields-cluster c (pairs ps) ws e = cc
-fields-cluster c text ws e = cc
-fields-cluster c (dimensions k) ws e = cc
-fields-cluster c (members k) ws e = refl
+fields-compound c empty ws e = impossible e
+fields-compound c (items xs) ws e = impossible e
+fields-compound c (pairs ps) ws e = impossible e
+fields-compound c text ws e = impossible e
+fields-compound c (dimensions k) ws e = impossible e
+fields-compound c (members k) ws e = refl
+fields-compound c subtype ws e = refl
 
-fields-other : (c : ℕ) (b : Fields) (ws : List ℕ) → isMeasured (fieldsKind b) ≡ false → (cluster ≡ fieldsKind b → ⊥) → numbersFields c b ws ≡ []
+fields-other : (c : ℕ) (b : Fields) (ws : List ℕ) → isMeasured (fieldsKind b) ≡ false → isCompound (fieldsKind b) ≡ false → numbersFields c b ws ≡ []
 unfolding isMeasured fieldsKind numbersFields
 fields-other c empty ws e h = cc
 fields-other c (items xs) ws e h = cc
 fields-other c (pairs ps) ws e h = cc
 fields-other c text ws e h = refl
 fields-other c (dimensions k) ws e h = refl
-fields-other c (members k) ws e h = absurd (h refl)
+fields-other c (members k) ws e h = impossible (sym h)
+fields-other c subtype ws e h = impossible (sym h)
 
 module _ (d : List ℕ) (p : ℕ) (here : Stands d p) where
   opened : numbersIn (typeAt d p) ≡ numbersFields (it d p here .code) (it d p here .fields) (numbersAll (it d p here .inner))
@@ -67,17 +72,16 @@ module _ (d : List ℕ) (p : ℕ) (here : Stands d p) where
       ∙ fields-scalar (it d p here .code) (it d p here .fields) (numbersAll (it d p here .inner)) (is-measured d p here some)
       ∙ ap (λ (c : ℕ). copies (numberCount c) (numberWidth c)) (it d p here .coded ∙ sym e)
 
-  pub numbers-members : (i : Inside) → i ≡ insideOf d p → cluster ≡ kindOf (codeIn d p) → numbersIn (typeAt d p) ≡ numbersAll (typesAt d (i .children) (i .at))
-  unfolding hasInside
+  pub numbers-members : (i : Inside) → i ≡ insideOf d p → isCompound (kindOf (codeIn d p)) ≡ true → numbersIn (typeAt d p) ≡ numbersAll (typesAt d (i .children) (i .at))
   numbers-members i e k =
       opened
-      ∙ fields-cluster (it d p here .code) (it d p here .fields) (numbersAll (it d p here .inner)) (it d p here .kind ∙ sym k)
-      ∙ ap numbersAll (sym (types-inside d p here i e (sym (ap hasInside k))))
+      ∙ fields-compound (it d p here .code) (it d p here .fields) (numbersAll (it d p here .inner)) (ap isCompound (it d p here .kind) ∙ k)
+      ∙ ap numbersAll (sym (types-inside d p here i e (compound-inside _ k)))
 
-  pub numbers-other : widthOf (codeIn d p) ≡ 0 → (cluster ≡ kindOf (codeIn d p) → ⊥) → numbersIn (typeAt d p) ≡ []
+  pub numbers-other : widthOf (codeIn d p) ≡ 0 → isCompound (kindOf (codeIn d p)) ≡ false → numbersIn (typeAt d p) ≡ []
   numbers-other e h =
       opened
-      ∙ fields-other (it d p here .code) (it d p here .fields) (numbersAll (it d p here .inner)) (not-measured d p here e) (λ k. h (k ∙ it d p here .kind))
+      ∙ fields-other (it d p here .code) (it d p here .fields) (numbersAll (it d p here .inner)) (not-measured d p here e) (ap isCompound (it d p here .kind) ∙ h)
 
 -- a width that is joined again stays
 joined-again : (before w : ℕ) → joinedWidth (joinedWidth before w) w ≡ joinedWidth before w

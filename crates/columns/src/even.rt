@@ -3,8 +3,7 @@
 use super::column::turn_scalar_column;
 use byteorder::runs::turn_run;
 use byteorder::scalars::number_width;
-use descriptor::codes::Kind;
-use descriptor::codes::kind_of;
+use descriptor::codes::is_compound;
 use descriptor::header::code_at;
 use descriptor::header::size_at;
 use descriptor::inside::inside_of;
@@ -48,8 +47,7 @@ fn common_width(d: &[u8], p: usize, before: usize, left: usize) -> usize
     if w != 0 {
         return joined_width(before, number_width(code, w));
     }
-    let k = kind_of(code);
-    if let Kind::Cluster = k {
+    if is_compound(code) {
         let inside = inside_of(d, p);
         return common_row(d, inside.at, inside.children, before, left - 1);
     }
@@ -93,8 +91,7 @@ fn turn_columns(
         turn_scalar_column(s, out, at, code, w, step, n);
         return at + w;
     }
-    let k = kind_of(code);
-    if let Kind::Cluster = k {
+    if is_compound(code) {
         let inside = inside_of(d, p);
         return turn_columns_row(d, inside.at, inside.children, s, out, at, step, n, left - 1);
     }

@@ -26,7 +26,7 @@ use Rattle.number.proofs.Complement.{half-bit, stays, falls}
 use Rattle.number.proofs.Pattern.{single-bits, double-bits}
 use Rattle.descriptor.specs.Limits.{dataLimit}
 use Rattle.descriptor.specs.Codes.{plain, enumeration, kindOf, isArray, between, booleanCode}
-use Rattle.descriptor.specs.Tree.{empty, items, pairs, text, dimensions, members, Tree, node, Forest, nil, cons}
+use Rattle.descriptor.specs.Tree.{empty, items, pairs, text, dimensions, members, subtype, Tree, node, Forest, nil, cons}
 use Rattle.descriptor.specs.Encoding.{Bytes, FieldsFit, WellFormed, AllWellFormed}
 use Rattle.descriptor.specs.Width.{widthOf}
 use Rattle.descriptor.specs.Outcome.{Outcome, refused, read, andThen, judge}
@@ -115,6 +115,7 @@ module _ (s : List ℕ) where
       holds-andThen (holds-self (repeat (λ p. walkAll big f s p) k next)) (λ start _ _.
       member-formed (isArray (kindOf c)) i f zero start (w .inside))))
   step-formed g i (node c (members n) f m) k at w = member-formed (isArray (kindOf c)) i f k at (w .inside)
+  step-formed g i (node c subtype f m) k at w = member-formed (isArray (kindOf c)) i f k at (w .inside)
 
   pub path-formed : (p : List ℕ) (i : ℕ) (x : Spot) → Formed (x .type) → Holds (λ _ y. Formed (y .type)) (spotAt p i s x)
   unfolding spotAt
@@ -134,6 +135,7 @@ module _ (s : List ℕ) where
   number-stop (node c text f m) at b ts w n e = impossible (sym (ap isMeasured (w .formed .fields)) ∙ measured n)
   number-stop (node c (dimensions k) f m) at b ts w n e = impossible (sym (ap isMeasured (w .formed .fields .0)) ∙ measured n)
   number-stop (node c (members k) f m) at b ts w n e = impossible (sym (ap isMeasured (w .formed .fields .0)) ∙ measured n)
+  number-stop (node c subtype f m) at b ts w n e = impossible (sym (ap isMeasured (w .formed .fields)) ∙ measured n)
 
   -- a flag's byte is 0 or 1
   scalar-fits : (c at : ℕ) (fits : Bool) (number : ℕ) → Holds (λ b ts. fits ≡ true) (scalarAt c s at fits number)
@@ -163,6 +165,7 @@ module _ (s : List ℕ) where
   flag-low (node c text f m) at b ts w e h = impossible (sym (ap isMeasured (w .formed .fields)) ∙ measured (flag h))
   flag-low (node c (dimensions k) f m) at b ts w e h = impossible (sym (ap isMeasured (w .formed .fields .0)) ∙ measured (flag h))
   flag-low (node c (members k) f m) at b ts w e h = impossible (sym (ap isMeasured (w .formed .fields .0)) ∙ measured (flag h))
+  flag-low (node c subtype f m) at b ts w e h = impossible (sym (ap isMeasured (w .formed .fields)) ∙ measured (flag h))
 
 -- an accepted value
 abbrev pub given : Value → Reading

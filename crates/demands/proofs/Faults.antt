@@ -10,7 +10,7 @@ use Prim.Native.Nat.{ℕ, _≤_}
 use native.Mathlib.Omega.{arith}
 use borrow.Author.Tests.{eqb-true}
 use lib.Dec.{eqb}
-use Rattle.descriptor.specs.Tree.{empty, items, pairs, text, dimensions, members, Tree, node, Forest, nil}
+use Rattle.descriptor.specs.Tree.{empty, items, pairs, text, dimensions, members, subtype, Tree, node, Forest, nil}
 use Rattle.descriptor.specs.Encoding.{Bytes}
 use Rattle.descriptor.specs.Outcome.{Outcome, refused, read, judge, denied, granted, settle}
 use Rattle.descriptor.specs.Output.{Written, unwritten, writtenTo, given}
@@ -39,6 +39,7 @@ fault-read (node c text f m) place (noCluster h) = refl
 fault-read (node c (dimensions k) f m) place (noCluster h) = refl
 fault-read (node c (members k) f m) place (noCluster h) = absurd (h tt)
 fault-read (node c (members k) f m) place (badName h) = rw (bad-refused f nil [] 0 place none-seen h) refl
+fault-read (node c subtype f m) place (noCluster h) = refl
 
 -- a reader's descriptor is at fault, or is as the demand has it
 reader-judged : (r : List ℕ) (y : Described r) (t : Tree) → y .tree ≡ t
@@ -49,6 +50,7 @@ reader-judged r y (node c (items xs) f m) e = _⊎_.inl (0, noCluster (λ h. h))
 reader-judged r y (node c (pairs ps) f m) e = _⊎_.inl (0, noCluster (λ h. h))
 reader-judged r y (node c text f m) e = _⊎_.inl (0, noCluster (λ h. h))
 reader-judged r y (node c (dimensions k) f m) e = _⊎_.inl (0, noCluster (λ h. h))
+reader-judged r y (node c subtype f m) e = _⊎_.inl (0, noCluster (λ h. h))
 reader-judged r y (node c (members k) f m) e =
     ⊎-elim (λ h. _⊎_.inl (h .0, badName (h .1)))
     (λ n. _⊎_.inr (
@@ -69,6 +71,7 @@ rig-judged w x s (node c (items xs) f m) e = _⊎_.inl (λ h. h, refl)
 rig-judged w x s (node c (pairs ps) f m) e = _⊎_.inl (λ h. h, refl)
 rig-judged w x s (node c text f m) e = _⊎_.inl (λ h. h, refl)
 rig-judged w x s (node c (dimensions k) f m) e = _⊎_.inl (λ h. h, refl)
+rig-judged w x s (node c subtype f m) e = _⊎_.inl (λ h. h, refl)
 rig-judged w x s (node c (members k) f m) e = _⊎_.inr (f, record { described = x; code = c; count = k; name = m; top = e }, e)
 
 -- a reader as the demand has it passes

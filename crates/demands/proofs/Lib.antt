@@ -22,3 +22,4 @@ pub mod Faults
 pub mod Back
 pub mod Carried
 pub mod Found
+pub mod Difference

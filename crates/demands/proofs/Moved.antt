@@ -10,7 +10,7 @@ use borrow.Author.Tests.{le-leb, eqb-true}
 use lib.Dec.{leb, ltb, eqb}
 use lib.ListN.{length, getD}
 use Rattle.number.specs.Endian.{be}
-use Rattle.descriptor.specs.Tree.{empty, items, pairs, text, dimensions, members, Tree, node, Forest, nil, cons}
+use Rattle.descriptor.specs.Tree.{empty, items, pairs, text, dimensions, members, subtype, Tree, node, Forest, nil, cons}
 use Rattle.descriptor.specs.Outcome.{Outcome, read}
 use Rattle.descriptor.proofs.Outcomes.{Holds, found, holds-require, holds-andThen}
 use Rattle.descriptor.specs.Width.{widthOf}
@@ -182,6 +182,7 @@ module _ (s s′ : List ℕ) where
     walks-walk (node c (dimensions k) f m) a a′ =
         walks-array c k (λ p. walkAll big f s p) (λ p. walkAll big f s′ p) (λ b b′. walks-walkAll f b b′) a a′
     walks-walk (node c (members k) f m) a a′ = walks-walkAll f a a′
+    walks-walk (node c subtype f m) a a′ = walks-walkAll f a a′
 
     -- and of types in a row
     walks-walkAll : (f : Forest) (a a′ : ℕ) → Walks a a′ (walkAll big f s a) (walkAll big f s′ a′)

@@ -9,7 +9,7 @@ use native.Mathlib.Omega.{arith}
 use borrow.Author.Tests.{leb-true, ltb-true}
 use lib.Dec.{leb, ltb}
 use lib.ListN.{length}
-use Rattle.descriptor.specs.Tree.{empty, items, pairs, text, dimensions, members, Tree, node, Forest, nil, cons}
+use Rattle.descriptor.specs.Tree.{empty, items, pairs, text, dimensions, members, subtype, Tree, node, Forest, nil, cons}
 use Rattle.descriptor.specs.Outcome.{Outcome, refused, read, andThen, require, judge}
 use Rattle.descriptor.specs.Limits.{dataLimit}
 use Rattle.descriptor.specs.Answers.{accepted}
@@ -196,6 +196,7 @@ module _ (s : List ℕ) where
       (element (λ p. walkAll big f s p) (λ p g. goes-walkAll s big f p g) k (w .count) (w .next) b (w .tokens) (w .inner) (ltb-true _ _ l)
       (w .elements))))
   step-meets i (node c (members n) f m) k at b ts h e = member-meets i f k at b ts h e
+  step-meets i (node c subtype f m) k at b ts h e = member-meets i f k at b ts h e
 
   -- and that of a path inside the data of the type that it starts from
   pub path-meets : (p : List ℕ) (i : ℕ) (x : Spot) {a b : ℕ} (l : Lies s a b x) → Meets s (x .start) (l .stop) (spotAt p i s x)

@@ -9,7 +9,7 @@ use borrow.Author.Tests.{leb-true}
 use lib.Dec.{leb, ltb}
 use lib.ListN.{length}
 use lib.Seq.{slice, slice-empty}
-use Rattle.descriptor.specs.Tree.{empty, items, pairs, text, dimensions, members, Tree, node, Forest, nil, cons}
+use Rattle.descriptor.specs.Tree.{empty, items, pairs, text, dimensions, members, subtype, Tree, node, Forest, nil, cons}
 use Rattle.descriptor.specs.Outcome.{Outcome}
 use Rattle.descriptor.proofs.Outcomes.{Holds, found, holds-require, holds-andThen}
 use Rattle.encoding.proofs.Slices.{slice-join}
@@ -103,6 +103,7 @@ module _ (s : List ℕ) where
     goes-walk o (node c text f m) at h = goes-text o at
     goes-walk o (node c (dimensions k) f m) at h = goes-array o k (λ p. walkAll o f s p) (λ p g. goes-walkAll o f p g) c at
     goes-walk o (node c (members k) f m) at h = goes-walkAll o f at h
+    goes-walk o (node c subtype f m) at h = goes-walkAll o f at h
 
     -- and of types in a row
     pub goes-walkAll : (o : Order) (f : Forest) (at : ℕ) → at ≤ length s → Goes s at (walkAll o f s at)

@@ -13,7 +13,7 @@ use lib.ListN.{length, getD, replicate}
 use lib.Seq.{slice, length-slice}
 use Rattle.number.specs.Endian.{be}
 use Rattle.descriptor.specs.Limits.{rowLimit}
-use Rattle.descriptor.specs.Codes.{Kind, plain, enumeration, quantity, string, array, cluster, unknown, kindOf}
+use Rattle.descriptor.specs.Codes.{Kind, plain, enumeration, quantity, string, array, cluster, stamp, unknown, kindOf}
 use Rattle.descriptor.specs.Tree.{Name, unnamed, named, Fields, Tree, node, Forest, nil, cons, countOf, childCount, insideAt, treeSize, forestSize, rowCount}
 use Rattle.descriptor.specs.Outcome.{Outcome, refused, read}
 use Rattle.descriptor.specs.Check.{nameAt, checked}
@@ -45,6 +45,7 @@ countWord d p quantity = be d (p + 4) 2
 countWord d p string = 0
 countWord d p array = be d (p + 4) 2
 countWord d p cluster = be d (p + 4) 2
+countWord d p stamp = 0
 countWord d p unknown = 0
 
 -- "name place (0 where there is none), name length. The place is that of the first character; for an empty name, the byte after its
@@ -130,6 +131,7 @@ module _ (d : List ℕ) where
   count-said p string = refl
   count-said p array = refl
   count-said p cluster = refl
+  count-said p stamp = refl
   count-said p unknown = refl
 
   -- the row of a descriptor that stands at p

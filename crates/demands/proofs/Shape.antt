@@ -6,7 +6,7 @@ use mathlib.Core.Bool.{cond}
 use mathlib.Core.List.{List, [], _∷_, _++_}
 use Prim.Native.Nat.{ℕ, suc, _+_, _≤_, _<_}
 use lib.ListN.{length, drop}
-use Rattle.descriptor.specs.Tree.{Name, unnamed, named, empty, items, pairs, text, dimensions, members, Tree, node, Forest, nil, cons}
+use Rattle.descriptor.specs.Tree.{Name, unnamed, named, empty, items, pairs, text, dimensions, members, subtype, Tree, node, Forest, nil, cons}
 use Rattle.descriptor.specs.Outcome.{read}
 use Rattle.descriptor.specs.Answers.{accepted}
 use Rattle.descriptor.specs.Output.{Written, unwritten, given}
@@ -73,6 +73,7 @@ IsCluster (node c (pairs ps) f m) = ⊥
 IsCluster (node c text f m) = ⊥
 IsCluster (node c (dimensions k) f m) = ⊥
 IsCluster (node c (members k) f m) = Unit {0}
+IsCluster (node c subtype f m) = ⊥
 
 -- "a member's name is missing, empty or an earlier member's": the member t, those before it
 pub data BadName (before : Forest) (t : Tree) : Type 0 where

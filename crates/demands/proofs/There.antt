@@ -31,7 +31,7 @@ use Rattle.access.specs.declared.part.Part.{Part}
 use Rattle.reading.specs.declared.value.Value.{Value as Given}
 use Rattle.reading.specs.declared.value.Value.the-variants.{Nothing}
 use Rattle.reading.proofs.Values.{inside, value-none}
-use Rattle.values.specs.Value.{Value, numbers, characters, elements, parts, Values, count, AllBelow, Scalar, Fits, plain, enumeration, quantity, string, array, cluster, AllFit, without, element, EachFits, done, member, inOrder, flatten, flattenElements, flattenMembers, Data}
+use Rattle.values.specs.Value.{Value, numbers, characters, elements, parts, Values, count, AllBelow, Scalar, Fits, plain, enumeration, quantity, string, array, cluster, stamp, AllFit, without, element, EachFits, done, member, inOrder, flatten, flattenElements, flattenMembers, Data}
 use Rattle.byteorder.specs.Reversal.{numberCount, numberWidth}
 use Rattle.values.specs.Pieces.{piecesAt}
 use Rattle.values.proofs.Places.{Here, here-whole, here-first, here-second}
@@ -96,6 +96,7 @@ module _ (s : List ℕ) where
       rw (sizes-walk big s d at ns l b (here-first s at x _ h), sym (n ∙ sizes-product ns), next)
       (element-leads i k gs (at + length x) (here-second s at x _ h))
   step-leads i k (cluster gs) at h = member-leads i k gs at h
+  step-leads i k (stamp gs) at h = member-leads i k gs at h
 
   -- a path
   path-leads : (i : ℕ) (p : List ℕ) {t : Tree} {v : Value} → Fits t v → (at : ℕ) → Here s at (flatten big t v)
@@ -159,6 +160,7 @@ module _ (s : List ℕ) where
   value-at w (string b l) at h = valueless _ _ (λ n. impossible (sym (ap isMeasured (w .formed .fields)) ∙ measured n))
   value-at w (array l b n gs) at h = valueless _ _ (λ n. impossible (sym (ap isMeasured (w .formed .fields .0)) ∙ measured n))
   value-at w (cluster gs) at h = valueless _ _ (λ n. impossible (sym (ap isMeasured (w .formed .fields .0)) ∙ measured n))
+  value-at w (stamp gs) at h = valueless _ _ (λ n. impossible (sym (ap isMeasured (w .formed .fields)) ∙ measured n))
 
   -- what is answered where the walk leads: the value
   leads-reading : {o : Outcome Spot} {r : Reached} → Leads s o r → Holds (λ _ y. Formed (y .type)) o

@@ -3,3 +3,4 @@ pub mod DataCases
 pub mod RecordCases
 pub mod LentCases
 pub mod Refusals
+pub mod StampCases

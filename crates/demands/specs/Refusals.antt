@@ -10,7 +10,7 @@ use lib.Dec.{eqb}
 use lib.ListN.{replicate}
 use Rattle.number.specs.Endian.{be, beBytes}
 use Rattle.descriptor.specs.Limits.{descriptorLimit, rowLimit, depthLimit, dimensionLimit, pairLimit, baseLimit, countLimit, dataLimit, lengthLimit}
-use Rattle.descriptor.specs.Codes.{Kind, plain, enumeration, quantity, string, array, cluster, unknown, kindOf}
+use Rattle.descriptor.specs.Codes.{Kind, plain, enumeration, quantity, string, array, cluster, stamp, unknown, kindOf}
 use Rattle.descriptor.specs.Tree.{childCount, countOf, itemsSize, fieldsSize, nameSize, treeSize, forestSize, rowCount, forestRows}
 use Rattle.descriptor.specs.Encoding.{word}
 use Rattle.descriptor.specs.Check.{headerAt, countAt, runAt, itemAt, itemsAt, pairsAt, fieldsRead, judged, contentsAt, fillAt, filledAt, fieldsAt, membersAt, nameAt, nodeAt, treeAt, checked}
@@ -120,11 +120,11 @@ unfoldable pub widths : ℕ → ℕ → List ℕ
 widths zero low = []
 widths (suc n) low = widthOf low ∷ widths n (suc low)
 
--- "Carried codes: 01 to 08 .., 09 to 0B .., 0C to 0E .., 15 to 17 .., 19 to 1B and 1C to 1E .., 21 .., 30 .., 40 .., 50", of all 256
+-- "Carried codes: 01 to 08 .., 09 to 0B .., 0C to 0E .., 15 to 17 .., 19 to 1B and 1C to 1E .., 21 .., 30 .., 40 .., 50", and 54, of all 256
 pub carried-codes : (kinds 33 0
     ≡ unknown ∷ (replicate 14 plain ++ (replicate 6 unknown ++ (replicate 3 enumeration ++ (unknown ∷ (replicate 6 quantity ++ (unknown ∷ unknown ∷ [])))))))
     × (kinds 223 33
-    ≡ plain ∷ (replicate 14 unknown ++ (string ∷ (replicate 15 unknown ++ (array ∷ (replicate 15 unknown ++ (cluster ∷ replicate 175 unknown)))))))
+    ≡ plain ∷ (replicate 14 unknown ++ (string ∷ (replicate 15 unknown ++ (array ∷ (replicate 15 unknown ++ (cluster ∷ (replicate 3 unknown ++ stamp ∷ replicate 171 unknown))))))))
 unfolding kindOf kinds
 carried-codes = (refl, refl)
 

@@ -5,15 +5,17 @@ use mathlib.Core.List.{List}
 use Prim.Native.Nat.{ℕ, _+_, _-_, _*_, _%_, _≤_, _<_}
 use native.Mathlib.Omega.{arith}
 use borrow.Author.Tests.{leb-true}
-use lib.Dec.{leb}
+use lib.Dec.{leb, eqb}
 use lib.ListN.{length}
 use Rattle.number.specs.Endian.{be}
 use Rattle.descriptor.specs.Limits.{countLimit, pairLimit, dimensionLimit}
-use Rattle.descriptor.specs.Codes.{Kind, plain, enumeration, quantity, string, array, cluster, unknown, kindOf, isCarried}
+use Rattle.descriptor.specs.Codes.{Kind, plain, enumeration, quantity, string, array, cluster, stamp, unknown, kindOf, isCarried}
 use Rattle.descriptor.specs.Header.{headerSize, bodyAt, sizeIn, codeIn}
-use Rattle.descriptor.specs.Tree.{Name, Fields, empty, items, pairs, text, dimensions, members, Tree, node, Forest, countOf, childCount, insideAt, itemsSize, fieldsSize}
+use Rattle.descriptor.specs.Tree.{Name, Fields, empty, items, pairs, text, dimensions, members, subtype, Tree, node, Forest, countOf, childCount, insideAt, itemsSize, fieldsSize}
+use Rattle.descriptor.specs.Stamp.{stampSubtype}
 use Rattle.descriptor.specs.Outcome.{Outcome, refused, read}
 use Rattle.descriptor.specs.Check.{countAt, runAt, itemsAt, pairsAt, fieldsRead, contentsAt, filledAt, fieldsAt}
+use Rattle.descriptor.specs.inner.Steps.{isEnumeration}
 use Rattle.descriptor.specs.inner.Standing.{standing, isRead, fieldsOf, contentsStart, leafInside, insideOf, shapeOf, Stands}
 use Rattle.descriptor.specs.declared.inside.Inside.{Inside}
 use Rattle.descriptor.proofs.Outcomes.{Holds, nothing, found, holds-read, holds-require, holds-andThen, holds-self, holds-both}
@@ -48,6 +50,7 @@ hasCount quantity = true
 hasCount string = false
 hasCount array = true
 hasCount cluster = true
+hasCount stamp = false
 hasCount unknown = false
 
 -- what a body of the kind that starts at `at` has in it, by its count word
@@ -58,6 +61,7 @@ insideBy quantity s at = record { at = at + 2 + 4 * be s at 2; count = be s at 2
 insideBy string s at = leafInside (at + 4)
 insideBy array s at = record { at = at + 2 + 4 * be s at 2; count = be s at 2; children = 1 }
 insideBy cluster s at = record { at = at + 2; count = be s at 2; children = be s at 2 }
+insideBy stamp s at = record { at = at + 2; count = 0; children = 1 }
 insideBy unknown s at = leafInside at
 
 -- what the fields of the descriptor at p have in them
@@ -97,6 +101,9 @@ module _ (s : List ℕ) (p stop : ℕ) (within : stop ≤ length s) where
   read-agrees cluster =
       holds-andThen (count-fits s p (bodyAt p) stop countLimit) (λ last k c.
       found (record { same = λ i. record { at = bodyAt p + 2; count = c .word i; children = c .word i }; word = λ _. omega (arith, c .next, c .within) }))
+  read-agrees stamp =
+      holds-require (leb (bodyAt p + 2) stop) _ _ (λ _.
+      holds-require (eqb (be s (bodyAt p) 2) stampSubtype) _ _ (λ _. found (record { same = refl; word = λ e. impossible e })))
   read-agrees unknown = nothing
 
   pub fields-agree : (k : Kind) → Holds (λ q b. Agrees k b) (fieldsAt k s p (bodyAt p) stop)
@@ -138,6 +145,7 @@ isItems (pairs ps) = false
 isItems text = false
 isItems (dimensions k) = false
 isItems (members k) = false
+isItems subtype = false
 
 starts-same : (p : ℕ) (b : Fields) → isItems b ≡ false → contentsStart p b ≡ insideAt p b
 unfolding isItems contentsStart
@@ -147,19 +155,10 @@ starts-same p (pairs ps) e = refl
 starts-same p text e = refl
 starts-same p (dimensions k) e = refl
 starts-same p (members k) e = refl
+starts-same p subtype e = refl
 
--- whether bodies of the kind are items
-unfoldable pub itemised : Kind → Bool
-itemised plain = false
-itemised enumeration = true
-itemised quantity = false
-itemised string = false
-itemised array = false
-itemised cluster = false
-itemised unknown = false
-
-read-items : (k : Kind) (s : List ℕ) (p at stop : ℕ) → Holds (λ q b. isItems b ≡ itemised k) (fieldsRead k s p at stop)
-unfolding fieldsRead isItems itemised
+read-items : (k : Kind) (s : List ℕ) (p at stop : ℕ) → Holds (λ q b. isItems b ≡ isEnumeration k) (fieldsRead k s p at stop)
+unfolding fieldsRead isItems
 read-items plain s p at stop = found refl
 read-items enumeration s p at stop =
     holds-andThen (holds-self (countAt s p at stop countLimit)) (λ next k _. holds-andThen (holds-self (itemsAt s p stop k next)) (λ _ xs _. found refl))
@@ -167,9 +166,10 @@ read-items quantity s p at stop = holds-andThen (holds-self (runAt s p at stop p
 read-items string s p at stop = holds-require (leb (at + 4) stop) _ _ (λ _. found refl)
 read-items array s p at stop = holds-andThen (holds-self (runAt s p at stop dimensionLimit)) (λ _ k _. found refl)
 read-items cluster s p at stop = holds-andThen (holds-self (countAt s p at stop countLimit)) (λ _ k _. found refl)
+read-items stamp s p at stop = holds-require (leb (at + 2) stop) _ _ (λ _. holds-require (eqb (be s at 2) stampSubtype) _ _ (λ _. found refl))
 read-items unknown s p at stop = nothing
 
-fields-items : (k : Kind) (s : List ℕ) (p at stop : ℕ) → Holds (λ q b. isItems b ≡ itemised k) (fieldsAt k s p at stop)
+fields-items : (k : Kind) (s : List ℕ) (p at stop : ℕ) → Holds (λ q b. isItems b ≡ isEnumeration k) (fieldsAt k s p at stop)
 unfolding fieldsAt
 fields-items k s p at stop =
     holds-andThen (read-items k s p at stop) (λ next b a.
@@ -205,11 +205,11 @@ module _ (s : List ℕ) (p : ℕ) (st : Stands s p) where
     word-room h = let w = agreed .word (ap hasCount (sym same-kind) ∙ h) in omega (arith, it .opened .inside)
 
     -- the first byte after the fields is the same where there are no items
-    pub shape-same : itemised k ≡ false → insideOf s p ≡ shapeOf s p
+    pub shape-same : isEnumeration k ≡ false → insideOf s p ≡ shapeOf s p
     unfolding insideOf shapeOf
     shape-same h =
         let none : isItems (fieldsOf (standing s p)) ≡ false =
-        ap isItems fields-are ∙ holds-read (it .opened .fields) (fields-items (kindOf (it .code)) s p (bodyAt p) (it .end)) ∙ ap itemised (sym same-kind) ∙ h in
+        ap isItems fields-are ∙ holds-read (it .opened .fields) (fields-items (kindOf (it .code)) s p (bodyAt p) (it .end)) ∙ ap isEnumeration (sym same-kind) ∙ h in
         λ i. record {
           at = starts-same p (fieldsOf (standing s p)) none i;
           count = countOf (fieldsOf (standing s p));

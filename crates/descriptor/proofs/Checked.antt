@@ -11,6 +11,7 @@ use Rattle.descriptor.specs.Limits.{descriptorLimit, rowLimit, depthLimi
 use Rattle.descriptor.specs.Codes.{kindOf, isArray}
 use Rattle.descriptor.specs.Tree.{Tree, node, Forest, nil, cons, childCount, rowCount, forestRows, height, forestHeight}
 use Rattle.descriptor.specs.Outcome.{Outcome, refused, read}
+use Rattle.descriptor.specs.Stamp.{insideFits}
 use Rattle.descriptor.specs.Check.{Header, headerAt, fieldsAt, membersAt, nameAt, nodeAt, treeAt, checked}
 use Rattle.descriptor.specs.Table.{rowsOf, forestRowsOf, zeroRow, tableOf}
 use Rattle.descriptor.specs.Answers.{refusal, accepted, descriptorCheck, withTable}
@@ -22,7 +23,7 @@ use Rattle.descriptor.specs.declared.answer.Row.{Row}
 use Rattle.descriptor.specs.declared.answer.Answer.{Answer}
 use Rattle.descriptor.specs.declared.answer.Checked.{Checked}
 use Rattle.descriptor.specs.inner.Filling.{Table}
-use Rattle.descriptor.proofs.Outcomes.{Holds, found, holds-read, holds-andThen, holds-self}
+use Rattle.descriptor.proofs.Outcomes.{Holds, found, holds-read, holds-require, holds-andThen, holds-self}
 use Rattle.descriptor.proofs.Sizes.{header-fits}
 use Rattle.descriptor.proofs.Rows.{rows-length}
 use Rattle.descriptor.proofs.Standing.{accepted-standing, standing-low}
@@ -56,7 +57,8 @@ tree-rows s (suc d) a end p n =
     holds-andThen
     (members-rows (λ q m. treeAt d s (isArray (kindOf (h .code))) (p + h .size) q m) (λ q m. tree-rows s d (isArray (kindOf (h .code))) (p + h .size) q m)
     (childCount b) at (n + 1) (omega (arith, fits .rows))) (λ next ts rows.
-    holds-andThen (holds-self (nameAt s p (p + h .size) next)) (λ last name _. found (omega arith)))))
+    holds-require (insideFits (kindOf (h .code)) ts) _ _ (λ _.
+    holds-andThen (holds-self (nameAt s p (p + h .size) next)) (λ last name _. found (omega arith))))))
 
 drop-replicate : {A : Type 0} (k n : ℕ) (a : A) → drop k (replicate n a) ≡ replicate (n - k) a
 drop-replicate zero n a = ap (λ (j : ℕ). replicate j a) (sym (sub-zero n))

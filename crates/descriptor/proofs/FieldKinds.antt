@@ -3,12 +3,14 @@ use mathlib.Core.Path.{_≡_, refl, ap}
 use mathlib.Core.Bool.{Bool, true, false}
 use mathlib.Core.List.{List}
 use Prim.Native.Nat.{ℕ, _+_}
-use lib.Dec.{leb}
+use lib.Dec.{leb, eqb}
 use lib.ListN.{length}
 use Rattle.descriptor.specs.Limits.{countLimit, pairLimit, dimensionLimit}
-use Rattle.descriptor.specs.Codes.{plain, enumeration, quantity, string, array, cluster, unknown}
+use Rattle.descriptor.specs.Codes.{plain, enumeration, quantity, string, array, cluster, stamp, unknown}
 use Rattle.descriptor.specs.Outcome.{Outcome, refused, read, andThen, require}
-use Rattle.descriptor.specs.Tree.{Fields, empty, items, pairs, text, dimensions, members}
+use Rattle.descriptor.specs.Tree.{Fields, empty, items, pairs, text, dimensions, members, subtype}
+use Rattle.number.specs.Endian.{be}
+use Rattle.descriptor.specs.Stamp.{stampSubtype}
 use Rattle.descriptor.specs.Places.{codePlace, overrunPlace}
 use Rattle.descriptor.specs.Check.{countAt, runAt, itemsAt, pairsAt, fieldsRead, judged, baseFits, wordFits, contentsAt, fillAt, filledAt, fieldsAt}
 use Rattle.descriptor.proofs.Sizes.{length-pairsAt}
@@ -82,6 +84,18 @@ module _ (s : List ℕ) (p at stop : ℕ) where
       go (refused number place) = refl
       go (read last k) =
           ap (λ (n : ℕ). andThen (judged (baseFits s) p n (at + 2)) (λ _ _. read last (pairs (pairsAt s k (at + 2))))) (length-pairsAt s k (at + 2))
+
+  pub stamp-fields : fieldsAt stamp s p at stop
+      ≡ require (leb (at + 2) stop) 8 (overrunPlace p stop) (require (eqb (be s at 2) stampSubtype) 5 (codePlace p) (read (at + 2) subtype))
+  unfolding fieldsAt fieldsRead contentsAt filledAt
+  stamp-fields = go (leb (at + 2) stop) (eqb (be s at 2) stampSubtype)
+    where
+      go : (b c : Bool)
+          → andThen (require b 8 (overrunPlace p stop) (require c 5 (codePlace p) (read (at + 2) subtype))) after
+          ≡ require b 8 (overrunPlace p stop) (require c 5 (codePlace p) (read (at + 2) subtype))
+      go true true = refl
+      go true false = refl
+      go false c = refl
 
   pub unknown-fields : fieldsAt unknown s p at stop ≡ refused 5 (codePlace p)
   unfolding fieldsAt fieldsRead

@@ -11,9 +11,11 @@ use lib.ListN.{length, getD, set, length-append}
 use lib.Seq.{slice, sets, set-comm, length-slice}
 use Rattle.number.proofs.Writing.{sets-append}
 use Rattle.descriptor.specs.Limits.{rowLimit, depthLimit, countLimit, pairLimit, dimensionLimit}
-use Rattle.descriptor.specs.Codes.{Kind, plain, enumeration, quantity, string, array, cluster, unknown, kindOf}
+use Rattle.descriptor.specs.Codes.{Kind, plain, enumeration, quantity, string, array, cluster, stamp, unknown, kindOf}
 use Rattle.descriptor.specs.Header.{bodyAt, sizeIn, codeIn}
 use Rattle.descriptor.specs.Tree.{Name, unnamed, named, Fields, empty, items, pairs, text, dimensions, members, insideAt, Tree, node, Forest, nil, cons, childCount, countOf, fieldsSize, treeSize, forestSize, rowCount, forestRows, height, forestHeight}
+use Rattle.number.specs.Endian.{be}
+use Rattle.descriptor.specs.Stamp.{stampSubtype}
 use Rattle.descriptor.specs.Outcome.{Outcome, refused, read}
 use Rattle.descriptor.specs.Check.{fieldsRead, contentsAt, filledAt, fieldsAt, nameAt}
 use Rattle.descriptor.specs.Table.{namePlace, nameLength, rowOf, rowsOf, forestRowsOf}
@@ -234,6 +236,8 @@ read-count quantity s p at stop inside =
 read-count string s p at stop inside = holds-require (leb (at + 4) stop) _ _ (λ _. found (omega arith))
 read-count array s p at stop inside = holds-andThen (run-fits s p at stop dimensionLimit) (λ last k r. found (omega (arith, r .limit)))
 read-count cluster s p at stop inside = holds-andThen (count-fits s p at stop countLimit) (λ last k c. found (c .limit))
+read-count stamp s p at stop inside =
+    holds-require (leb (at + 2) stop) _ _ (λ _. holds-require (eqb (be s at 2) stampSubtype) _ _ (λ _. found (omega arith)))
 read-count unknown s p at stop inside = nothing
 
 pub fields-count : (k : Kind) (s : List ℕ) (p at stop : ℕ) → stop ≤ length s → Holds (λ q b. countOf b ≤ countLimit) (fieldsAt k s p at stop)

@@ -11,9 +11,10 @@ use lib.Dec.{leb, ltb, eqb}
 use lib.ListN.{length, getD}
 use Rattle.number.specs.Endian.{be}
 use Rattle.descriptor.specs.Limits.{descriptorLimit, rowLimit, depthLimit, dimensionLimit, pairLimit, countLimit, highBit}
-use Rattle.descriptor.specs.Codes.{Kind, plain, enumeration, quantity, string, array, cluster, unknown, kindOf, isCarried, isArray, between}
+use Rattle.descriptor.specs.Codes.{Kind, plain, enumeration, quantity, string, array, cluster, stamp, unknown, kindOf, isCarried, isArray, between}
 use Rattle.descriptor.specs.Header.{headerSize, codeAt, bodyAt, sizeIn, codeIn}
-use Rattle.descriptor.specs.Tree.{Fields, empty, items, pairs, text, dimensions, members, Tree, childCount, treeSize, rowCount}
+use Rattle.descriptor.specs.Tree.{Fields, empty, items, pairs, text, dimensions, members, subtype, Tree, childCount, treeSize, rowCount}
+use Rattle.descriptor.specs.Stamp.{stampSubtype, insideFits}
 use Rattle.descriptor.specs.Places.{codePlace, overrunPlace, countPlace, contentsPlace, restPlace}
 use Rattle.descriptor.specs.Outcome.{Outcome, refused, read, andThen, require}
 use Rattle.descriptor.specs.Check.{sizeFits, headerAt, countAt, runAt, itemAt, itemsAt, fieldsRead, judged, baseFits, wordFits, contentsAt, fillAt, filledAt, fieldsAt, membersAt, nameAt, nodeAt, treeAt, checked}
@@ -81,6 +82,8 @@ module _ (s : List ℕ) (p stop most : ℕ) (here : p ≤ most) where
   read-placed string at = placed-require (leb (at + 4) stop) 8 (overrunPlace p stop) refl here accepted
   read-placed array at = placed-and (run-placed at dimensionLimit) (λ last k. accepted)
   read-placed cluster at = placed-and (count-placed at countLimit) (λ last k. accepted)
+  read-placed stamp at =
+      placed-require (leb (at + 2) stop) 8 (overrunPlace p stop) refl here (placed-require (eqb (be s at 2) stampSubtype) 5 (codePlace p) refl here accepted)
   read-placed unknown at = placed refl here
 
   judged-placed : (test : ℕ → Bool) (k at : ℕ) → Placed most (judged test p k at)
@@ -96,6 +99,7 @@ module _ (s : List ℕ) (p stop most : ℕ) (here : p ≤ most) where
   contents-placed at text = judged-placed (wordFits s) 1 at
   contents-placed at (dimensions k) = judged-placed (wordFits s) k (at + 2)
   contents-placed at (members k) = accepted
+  contents-placed at subtype = accepted
 
   filled-placed : (at : ℕ) (b : Fields) → Placed most (filledAt s p stop at b)
   unfolding filledAt fillAt
@@ -107,6 +111,7 @@ module _ (s : List ℕ) (p stop most : ℕ) (here : p ≤ most) where
   filled-placed at text = accepted
   filled-placed at (dimensions k) = accepted
   filled-placed at (members k) = accepted
+  filled-placed at subtype = accepted
 
   fields-placed : (k : Kind) (at : ℕ) → Placed most (fieldsAt k s p at stop)
   unfolding fieldsAt
@@ -163,7 +168,7 @@ tree-placed s (suc d) a end p n inside h =
     (placed-wider (fits .within)
     (members-placed stop (λ q m. treeAt d s inArray stop q m) (λ q m. tree-ends s d inArray stop q m fit)
     (λ q m l. tree-placed s d inArray stop q m fit l) (childCount b) at (n + 1) (eb .within))) (λ next ts.
-    placed-and (name-placed s p stop end h next) (λ last m. accepted))))
+    placed-require (insideFits (kindOf (x .code)) ts) 10 p refl h (placed-and (name-placed s p stop end h next) (λ last m. accepted)))))
 
 -- the whole check
 all-placed : (s : List ℕ) → Placed descriptorLimit (checked s)

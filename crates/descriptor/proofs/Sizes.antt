@@ -11,10 +11,11 @@ use lib.ListN.{length, getD}
 use lib.Seq.{length-slice}
 use Rattle.number.specs.Endian.{be}
 use Rattle.descriptor.specs.Limits.{rowLimit, dimensionLimit, pairLimit, countLimit, highBit}
-use Rattle.descriptor.specs.Codes.{Kind, plain, enumeration, quantity, string, array, cluster, unknown, kindOf, isCarried, isArray}
+use Rattle.descriptor.specs.Codes.{Kind, plain, enumeration, quantity, string, array, cluster, stamp, unknown, kindOf, isCarried, isArray}
 use Rattle.descriptor.specs.Header.{headerSize, bodyAt, sizeIn, codeIn}
-use Rattle.descriptor.specs.Tree.{Name, Fields, empty, items, pairs, text, dimensions, members, Tree, Forest, childCount, insideAt, itemsSize, fieldsSize, nameSize, treeSize, forestSize, forestLength, rowCount}
+use Rattle.descriptor.specs.Tree.{Name, Fields, empty, items, pairs, text, dimensions, members, subtype, Tree, Forest, childCount, insideAt, itemsSize, fieldsSize, nameSize, treeSize, forestSize, forestLength, rowCount}
 use Rattle.descriptor.specs.Outcome.{Outcome, read}
+use Rattle.descriptor.specs.Stamp.{stampSubtype, insideFits}
 use Rattle.descriptor.specs.Check.{Header, headerAt, countAt, runAt, itemAt, itemsAt, pairsAt, fieldsRead, contentsAt, fillAt, filledAt, fieldsAt, membersAt, nameAt, nodeAt, treeAt}
 use Rattle.descriptor.proofs.Outcomes.{Holds, nothing, found, holds-read, holds-require, holds-cond, holds-andThen, holds-weaken, holds-self}
 
@@ -123,6 +124,7 @@ readSize (pairs ps) = fieldsSize (pairs ps)
 readSize text = fieldsSize text
 readSize (dimensions k) = fieldsSize (dimensions k)
 readSize (members k) = fieldsSize (members k)
+readSize subtype = fieldsSize subtype
 
 module _ (s : List ℕ) (p stop : ℕ) (inside : stop ≤ length s) where
   -- a Pascal string
@@ -156,6 +158,9 @@ module _ (s : List ℕ) (p stop : ℕ) (inside : stop ≤ length s) where
   read-ends string at h = holds-require (leb (at + 4) stop) _ _ (λ room. found (record { at = omega arith; within = leb-true _ _ room }))
   read-ends array at h = holds-andThen (run-fits s p at stop dimensionLimit) (λ last k r. found (record { at = omega (arith, r .next); within = r .within }))
   read-ends cluster at h = holds-andThen (count-fits s p at stop countLimit) (λ last k c. found (record { at = omega (arith, c .next); within = c .within }))
+  read-ends stamp at h =
+      holds-require (leb (at + 2) stop) _ _ (λ room.
+      holds-require (eqb (be s at 2) stampSubtype) _ _ (λ _. found (record { at = omega arith; within = leb-true _ _ room })))
   read-ends unknown at h = nothing
 
   -- the zero byte after items, in a descriptor whose body starts an even number of bytes after it
@@ -173,6 +178,7 @@ module _ (s : List ℕ) (p stop : ℕ) (inside : stop ≤ length s) where
   filled-ends at next text h even e = found e
   filled-ends at next (dimensions k) h even e = found e
   filled-ends at next (members k) h even e = found e
+  filled-ends at next subtype h even e = found e
 
   -- the fields of a body
   pub fields-end : (k : Kind) (at : ℕ) → at ≡ bodyAt p → at ≤ stop → Holds (λ q b. Ends at stop (fieldsSize b) q) (fieldsAt k s p at stop)
@@ -214,8 +220,9 @@ module _ (s : List ℕ) where
       holds-andThen
       (members-end (p + h .size) (f (isArray (kindOf (h .code))) (p + h .size)) (λ q m. ends (isArray (kindOf (h .code))) (p + h .size) q m inside)
       (childCount b) at (n + 1) (eb .within)) (λ next ts es.
+      holds-require (insideFits (kindOf (h .code)) ts) _ _ (λ _.
       holds-andThen (name-ends s p (p + h .size) inside next) (λ last m em.
-      found (record { at = omega arith; within = omega arith }))))
+      found (record { at = omega arith; within = omega arith })))))
 
   -- a descriptor
   pub tree-ends : (levels : ℕ) (a : Bool) (end p n : ℕ) → end ≤ length s → Holds (λ q t. Ends p end (treeSize t) q) (treeAt levels s a end p n)

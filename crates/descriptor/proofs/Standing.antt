@@ -13,6 +13,7 @@ use Rattle.descriptor.specs.Codes.{kindOf, isCarried, isArray}
 use Rattle.descriptor.specs.Header.{headerSize, bodyAt, sizeIn, codeIn}
 use Rattle.descriptor.specs.Tree.{Name, Fields, Tree, node, Forest, nil, cons, childCount, insideAt, fieldsSize, treeSize, forestSize, forestLength, rowCount, height, forestHeight}
 use Rattle.descriptor.specs.Outcome.{Outcome, refused, read}
+use Rattle.descriptor.specs.Stamp.{insideFits}
 use Rattle.descriptor.specs.Check.{Header, headerAt, fieldsAt, membersAt, nameAt, nodeAt, treeAt, checked}
 use Rattle.descriptor.specs.inner.Standing.{standing, standingRow}
 use Rattle.descriptor.proofs.Outcomes.{Holds, found, holds-self, holds-read, holds-require, holds-andThen, holds-both, holds-weaken}
@@ -65,7 +66,8 @@ module _ (s : List ℕ) where
       holds-andThen
       (members-wider (f inArray stop) (g inArray stop) (λ q i j le. wider inArray stop q i j le) (childCount b) at (n + 1) (m + 1) (omega arith))
       (λ next ts es.
-      holds-andThen (holds-self (nameAt s p stop next)) (λ last name en. found (rw (eb, es, en)))))
+      holds-require (insideFits (kindOf (h .code)) ts) _ _ (λ fits.
+      holds-andThen (holds-self (nameAt s p stop next)) (λ last name en. found (rw (eb, es, fits, en))))))
 
   -- a descriptor that is read is read so with wider settings; `calm` says that no array is put around it
   pub tree-wider : (levels more : ℕ) (a b : Bool) (end late p n m : ℕ) → levels ≤ more → end ≤ late → m ≤ n
@@ -119,7 +121,8 @@ tree-low s (suc d) a end p n =
     holds-andThen
     (members-low d (λ q m. treeAt d s (isArray (kindOf (h .code))) (p + h .size) q m)
     (λ q m. tree-low s d (isArray (kindOf (h .code))) (p + h .size) q m) (childCount b) at (n + 1)) (λ next ts low.
-    holds-andThen (holds-self (nameAt s p (p + h .size) next)) (λ last name _. found (omega arith)))))
+    holds-require (insideFits (kindOf (h .code)) ts) _ _ (λ _.
+    holds-andThen (holds-self (nameAt s p (p + h .size) next)) (λ last name _. found (omega arith))))))
 
 -- what the descriptor at p, which ends at q, is made of: its header, its fields, the descriptors in it, its name
 pub record Opened (s : List ℕ) (p q c : ℕ) (b : Fields) (f : Forest) (m : Name) : Type 0 where
@@ -132,6 +135,7 @@ pub record Opened (s : List ℕ) (p q c : ℕ) (b : Fields) (f : Forest) (m : Na
   pub body : insideAt p b ≤ q
   pub children : standingRow s (childCount b) (insideAt p b) ≡ read (insideAt p b + forestSize f) f
   pub count : forestLength f ≡ childCount b
+  pub stamped : insideFits (kindOf c) f ≡ true
   pub within : insideAt p b + forestSize f ≤ q
   pub name : nameAt s p q (insideAt p b + forestSize f) ≡ read q m
   pub low : suc (forestHeight f) ≤ depthLimit
@@ -158,6 +162,7 @@ module _ (s : List ℕ) where
       (holds-both
       (members-stand s d inArray stop less fit (childCount b) at (n + 1))
       (members-low d (λ q m. treeAt d s inArray stop q m) (λ q m. tree-low s d inArray stop q m) (childCount b) at (n + 1)))) (λ next ts es.
+      holds-require (insideFits (kindOf (h .code)) ts) _ _ (λ stamped.
       holds-andThen (holds-both (name-ends s p stop fit next) (holds-self (nameAt s p stop next))) (λ last name en.
       let first : at ≡ insideAt p b = omega (arith, eb .0 .at, fits .body) in
       let after : next ≡ insideAt p b + forestSize ts = omega (arith, es .0 .0 .at) in
@@ -172,10 +177,11 @@ module _ (s : List ℕ) where
         body = omega (arith, eb .0 .within);
         children = ap (λ (k : ℕ). standingRow s (childCount b) k) (sym first) ∙ es .1 .0 ∙ ap (λ (k : ℕ). read k ts) after;
         count = es .0 .1;
+        stamped = stamped;
         within = omega (arith, es .0 .0 .within);
         name = (λ j. nameAt s p (ends j) (sym after j)) ∙ en .1;
         low = omega (arith, es .1 .1);
-      }))))
+      })))))
 
   -- a descriptor
   tree-opens : (levels : ℕ) (a : Bool) (end p n : ℕ) → levels ≤ depthLimit → end ≤ length s

@@ -9,9 +9,10 @@ use lib.Seq.{slice}
 use lib.Dec.{leb, ltb, eqb}
 use Rattle.number.specs.Endian.{be}
 use Rattle.descriptor.specs.Limits.{descriptorLimit, rowLimit, depthLimit, dimensionLimit, pairLimit, baseLimit, countLimit, highBit, fixedWord}
-use Rattle.descriptor.specs.Codes.{Kind, plain, enumeration, quantity, string, array, cluster, unknown, kindOf, isCarried, isArray, between}
+use Rattle.descriptor.specs.Codes.{Kind, plain, enumeration, quantity, string, array, cluster, stamp, unknown, kindOf, isCarried, isArray, between}
 use Rattle.descriptor.specs.Header.{headerSize, codeAt, bodyAt, sizeIn, codeIn}
-use Rattle.descriptor.specs.Tree.{Name, unnamed, named, Pair, Fields, empty, items, pairs, text, dimensions, members, Tree, node, Forest, nil, cons, childCount, rowCount}
+use Rattle.descriptor.specs.Tree.{Name, unnamed, named, Pair, Fields, empty, items, pairs, text, dimensions, members, subtype, Tree, node, Forest, nil, cons, childCount, rowCount}
+use Rattle.descriptor.specs.Stamp.{stampSubtype, insideFits}
 use Rattle.descriptor.specs.Outcome.{Outcome, refused, read, andThen, require}
 use Rattle.descriptor.specs.Places.{codePlace, overrunPlace, countPlace, contentsPlace, restPlace}
 
@@ -79,6 +80,11 @@ fieldsRead quantity s p at stop = andThen (runAt s p at stop pairLimit) (λ last
 fieldsRead string s p at stop = require (leb (at + 4) stop) 8 (overrunPlace p stop) (read (at + 4) text)
 fieldsRead array s p at stop = andThen (runAt s p at stop dimensionLimit) (λ last k. read last (dimensions k))
 fieldsRead cluster s p at stop = andThen (countAt s p at stop countLimit) (λ last k. read last (members k))
+-- document 02, CR 1: "a missing subtype word is 8", "another subtype is 5, judged after 8"
+fieldsRead stamp s p at stop =
+    require (leb (at + 2) stop) 8 (overrunPlace p stop)
+    (require (eqb (be s at 2) stampSubtype) 5 (codePlace p)
+    (read (at + 2) subtype))
 -- not reached: a code that is not carried is refused by its header
 fieldsRead unknown s p at stop = refused 5 (codePlace p)
 
@@ -105,6 +111,7 @@ contentsAt s p at (pairs ps) = judged (baseFits s) p (length ps) (at + 2)
 contentsAt s p at text = judged (wordFits s) p 1 at
 contentsAt s p at (dimensions k) = judged (wordFits s) p k (at + 2)
 contentsAt s p at (members k) = read at tt
+contentsAt s p at subtype = read at tt
 
 -- an enumeration's "one zero byte if the length so far is odd": 10 where it is not zero. (That it is missing, 8, can't happen: the
 -- descriptor's start and its end are even.)
@@ -122,6 +129,7 @@ filledAt s p stop at (pairs ps) = read at tt
 filledAt s p stop at text = read at tt
 filledAt s p stop at (dimensions k) = read at tt
 filledAt s p stop at (members k) = read at tt
+filledAt s p stop at subtype = read at tt
 
 -- the fields of the body that starts at `at`, read, judged and filled; the next byte is the first after them
 unfoldable pub fieldsAt : Kind → List ℕ → ℕ → ℕ → ℕ → Outcome Fields
@@ -142,14 +150,17 @@ nameAt s p stop at =
     (require (eqb ((1 + getD s at 0) % 2) 0 || eqb (getD s (at + 1 + getD s at 0) 0) 0) 11 (restPlace p at)
     (read stop (named (slice (at + 1) (at + 1 + getD s at 0) s)))))
 
--- The descriptor at p with the header h, whose body starts at `body`: its fields, then its children, then its name. f reads a child: it
--- is told whether the child stands in an array, its parent's end, its start, and how many rows went before.
+-- The descriptor at p with the header h, whose body starts at `body`: its fields, then its children, then whether they are a time stamp's,
+-- then its name. f reads a child: it is told whether the child stands in an array, its parent's end, its start, and how many rows went before.
+-- Of a time stamp, "anything else inside is 10 at the outer start, judged after the inner descriptors and before 11" (document 02, CR 1).
 unfoldable pub nodeAt : List ℕ → (Bool → ℕ → ℕ → ℕ → Outcome Tree) → ℕ → ℕ → ℕ → Header → Outcome Tree
 nodeAt s f p n body h =
     andThen (fieldsAt (kindOf (h .code)) s p body (p + h .size))
     (λ at b.
     andThen (membersAt (f (isArray (kindOf (h .code))) (p + h .size)) (childCount b) at (n + 1))
-    (λ next ts. andThen (nameAt s p (p + h .size) next) (λ last m. read last (node (h .code) b ts m))))
+    (λ next ts.
+    require (insideFits (kindOf (h .code)) ts) 10 p
+    (andThen (nameAt s p (p + h .size) next) (λ last m. read last (node (h .code) b ts m)))))
 
 -- The descriptor at p, whose parent ends at `end`, with `levels` left of the depth and n rows before it.
 -- "A cluster inside a cluster is read by the same rules, within its parent's end."

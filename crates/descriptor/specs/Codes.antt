@@ -18,6 +18,8 @@ pub data Kind : Type 0 where
   array : Kind
   -- 50
   cluster : Kind
+  -- 54: a time stamp's subtype and its one part
+  stamp : Kind
   -- every other code: not carried
   unknown : Kind
 
@@ -34,11 +36,15 @@ arrayCode = 0x40
 abbrev pub clusterCode : ℕ
 clusterCode = 0x50
 
+-- document 02, CR 1: "Carry code 54"
+abbrev pub stampCode : ℕ
+stampCode = 0x54
+
 -- low ≤ c ≤ high
 abbrev pub between : ℕ → ℕ → ℕ → Bool
 between low high c = leb low c && leb c high
 
--- "01 to 08 (integers), 09 to 0B .., 0C to 0E .., 15 to 17 .., 19 to 1B and 1C to 1E .., 21 .., 30 .., 40 .., 50"
+-- "01 to 08 (integers), 09 to 0B .., 0C to 0E .., 15 to 17 .., 19 to 1B and 1C to 1E .., 21 .., 30 .., 40 .., 50"; and 54
 unfoldable pub kindOf : ℕ → Kind
 kindOf c =
     cond (between 0x01 0x0E c || eqb c booleanCode) plain
@@ -47,7 +53,8 @@ kindOf c =
     (cond (eqb c stringCode) string
     (cond (eqb c arrayCode) array
     (cond (eqb c clusterCode) cluster
-    unknown)))))
+    (cond (eqb c stampCode) stamp
+    unknown))))))
 
 -- "0C to 0E (their complex kinds)" and "1C to 1E": two numbers, each half as wide
 abbrev pub isComplex : ℕ → Bool
@@ -61,6 +68,7 @@ isCarried quantity = Bool.true
 isCarried string = Bool.true
 isCarried array = Bool.true
 isCarried cluster = Bool.true
+isCarried stamp = Bool.true
 
 abbrev pub isArray : Kind → Bool
 isArray array = Bool.true
@@ -70,3 +78,14 @@ isArray enumeration = Bool.false
 isArray quantity = Bool.false
 isArray string = Bool.false
 isArray cluster = Bool.false
+isArray stamp = Bool.false
+
+abbrev pub isStamp : Kind → Bool
+isStamp stamp = Bool.true
+isStamp unknown = Bool.false
+isStamp plain = Bool.false
+isStamp enumeration = Bool.false
+isStamp quantity = Bool.false
+isStamp string = Bool.false
+isStamp array = Bool.false
+isStamp cluster = Bool.false

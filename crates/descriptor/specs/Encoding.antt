@@ -6,8 +6,9 @@ use Prim.Native.Nat.{ℕ, zero, suc, _+_, _*_, _%_, _≤_, _<_}
 use lib.ListN.{length, replicate}
 use Rattle.number.specs.Endian.{beBytes}
 use Rattle.descriptor.specs.Limits.{descriptorLimit, rowLimit, depthLimit, dimensionLimit, pairLimit, baseLimit, countLimit}
-use Rattle.descriptor.specs.Codes.{Kind, plain, enumeration, quantity, string, array, cluster, kindOf, isArray}
-use Rattle.descriptor.specs.Tree.{Name, unnamed, named, Pair, Fields, empty, items, pairs, text, dimensions, members, Tree, node, Forest, nil, cons, childCount, itemsSize, treeSize, insideAt, forestLength, rowCount, height}
+use Rattle.descriptor.specs.Codes.{Kind, plain, enumeration, quantity, string, array, cluster, stamp, kindOf, isArray, isStamp}
+use Rattle.descriptor.specs.Tree.{Name, unnamed, named, Pair, Fields, empty, items, pairs, text, dimensions, members, subtype, Tree, node, Forest, nil, cons, childCount, itemsSize, treeSize, insideAt, forestLength, rowCount, height}
+use Rattle.descriptor.specs.Stamp.{stampSubtype, stampInside}
 
 -- "All words are big-endian": a 16-bit word
 abbrev pub word : ℕ → List ℕ
@@ -45,6 +46,8 @@ fieldBytes text = replicate 4 255
 fieldBytes (dimensions d) = word d ++ replicate (4 * d) 255
 -- "50: a 16-bit member count, then the member descriptors."
 fieldBytes (members k) = word k
+-- document 02, CR 1: "subtype word 6"
+fieldBytes subtype = word stampSubtype
 
 -- "What is left is either nothing, or one Pascal string with one zero byte after it where needed to make the size even."
 unfoldable pub nameBytes : Name → List ℕ
@@ -108,6 +111,7 @@ FieldsFit k (pairs ps) = (k ≡ quantity) × (Counted (length ps) pairLimit × A
 FieldsFit k text = k ≡ string
 FieldsFit k (dimensions d) = (k ≡ array) × Counted d dimensionLimit
 FieldsFit k (members j) = (k ≡ cluster) × Counted j countLimit
+FieldsFit k subtype = k ≡ stamp
 
 -- a descriptor of these parts is as "How a descriptor is built" has it; `Inside` says so of the descriptors in it
 pub record NodeFits (inArray : Bool) (c : ℕ) (b : Fields) (f : Forest) (m : Name) (Inside : Type 0) : Type 0 where
@@ -116,6 +120,8 @@ pub record NodeFits (inArray : Bool) (c : ℕ) (b : Fields) (f : Forest) (m : Na
   pub element : (inArray && isArray (kindOf c)) ≡ false
   pub fields : FieldsFit (kindOf c) b
   pub children : forestLength f ≡ childCount b
+  -- document 02, CR 1: "after it stands one unnamed cluster of four unnamed integers, codes 03, 03, 07, 07"
+  pub stamped : isStamp (kindOf c) ≡ true → f ≡ stampInside
   pub inside : Inside
   pub name : NameFits m
 

@@ -6,6 +6,7 @@ pub mod Encoding
 pub mod Outcome
 pub mod Places
 pub mod Check
+pub mod Stamp
 pub mod Table
 pub mod Answers
 pub mod Output

@@ -28,6 +28,8 @@ pub data Fields : Type 0 where
   dimensions : ℕ → Fields
   -- code 50: a cluster's number of members, which stand after it
   members : ℕ → Fields
+  -- code 54: a time stamp's subtype word; its one part stands after it
+  subtype : Fields
 
 mutual
   -- a descriptor: its low code byte, its fields, the descriptors in it, its name
@@ -47,6 +49,7 @@ childCount (pairs ps) = 0
 childCount text = 0
 childCount (dimensions d) = 1
 childCount (members k) = k
+childCount subtype = 1
 
 -- a row's count: "items, pairs, dimensions or members, else 0"
 unfoldable pub countOf : Fields → ℕ
@@ -56,6 +59,7 @@ countOf (pairs ps) = length ps
 countOf text = 0
 countOf (dimensions d) = d
 countOf (members k) = k
+countOf subtype = 0
 
 -- the bytes of Pascal strings, packed
 unfoldable pub itemsSize : List (List ℕ) → ℕ
@@ -70,6 +74,7 @@ fieldsSize (pairs ps) = 2 + 4 * length ps
 fieldsSize text = 4
 fieldsSize (dimensions d) = 2 + 4 * d
 fieldsSize (members k) = 2
+fieldsSize subtype = 2
 
 -- where the descriptors in the body of the descriptor at p start: after its fields
 abbrev pub insideAt : ℕ → Fields → ℕ

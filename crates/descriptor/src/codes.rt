@@ -1,7 +1,7 @@
 // Document 01's codes and fixed words, said once in the code.
 ghost use mathlib.Core.Path.{_≡_};
-ghost use Rattle.descriptor.specs.Codes.{kindOf, isCarried, isArray};
-ghost use Rattle.descriptor.specs.inner.Steps.{kindIs};
+ghost use Rattle.descriptor.specs.Codes.{kindOf, isCarried, isArray, isStamp};
+ghost use Rattle.descriptor.specs.inner.Steps.{kindIs, isEnumeration, isCompound};
 
 // The last code of integers and real and complex numbers; the first is 01.
 const LAST_NUMBER: u8 = 0x0E;
@@ -20,7 +20,14 @@ const STRING: u8 = 0x30;
 
 const ARRAY: u8 = 0x40;
 
-const CLUSTER: u8 = 0x50;
+pub const CLUSTER: u8 = 0x50;
+
+const STAMP: u8 = 0x54;
+
+// A time stamp's subtype word, and how many descriptors stand after it.
+pub const STAMP_SUBTYPE: usize = 6;
+
+pub const STAMP_PARTS: usize = 1;
 
 // A string's length word and an array's dimension words.
 pub const FIXED_WORD: usize = 0xFFFF_FFFF;
@@ -33,6 +40,7 @@ pub enum Kind {
     Text,
     Array,
     Cluster,
+    Stamp,
     Unknown,
 }
 
@@ -70,6 +78,9 @@ pub fn kind_of(code: u8) -> Kind
     if code == CLUSTER {
         return Kind::Cluster;
     }
+    if code == STAMP {
+        return Kind::Stamp;
+    }
     Kind::Unknown
 }
 
@@ -85,22 +96,41 @@ pub fn is_carried(code: u8) -> bool
         Kind::Text => true,
         Kind::Array => true,
         Kind::Cluster => true,
+        Kind::Stamp => true,
         Kind::Unknown => false,
     }
+}
+
+// Whether it is an enumeration's.
+pub fn is_enumeration(code: u8) -> bool
+    ensures { λ r. ⌜ r ≡ isEnumeration (kindOf code) ⌝ }
+{
+    if code < FIRST_ENUMERATION {
+        return false;
+    }
+    code <= LAST_ENUMERATION
 }
 
 // Whether it is an array's.
 pub fn is_array(code: u8) -> bool
     ensures { λ r. ⌜ r ≡ isArray (kindOf code) ⌝ }
 {
-    let k = kind_of(code);
-    match k {
-        Kind::Plain => false,
-        Kind::Enumeration => false,
-        Kind::Quantity => false,
-        Kind::Text => false,
-        Kind::Array => true,
-        Kind::Cluster => false,
-        Kind::Unknown => false,
+    code == ARRAY
+}
+
+// Whether it is a time stamp's.
+pub fn is_stamp(code: u8) -> bool
+    ensures { λ r. ⌜ r ≡ isStamp (kindOf code) ⌝ }
+{
+    code == STAMP
+}
+
+// Whether the data of a descriptor of this code is that of the descriptors inside it, one after another.
+pub fn is_compound(code: u8) -> bool
+    ensures { λ r. ⌜ r ≡ isCompound (kindOf code) ⌝ }
+{
+    if code == CLUSTER {
+        return true;
     }
+    code == STAMP
 }

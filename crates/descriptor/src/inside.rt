@@ -1,5 +1,6 @@
 // What stands inside an accepted descriptor, with nothing judged again.
 use super::codes::Kind;
+use super::codes::STAMP_PARTS;
 use super::codes::kind_of;
 use super::header::body_at;
 use super::header::code_at;
@@ -68,6 +69,11 @@ pub fn inside_of(d: &[u8], p: usize) -> Inside
                 children: n,
             }
         }
+        Kind::Stamp => Inside {
+            at: body + 2,
+            count: 0,
+            children: STAMP_PARTS,
+        },
         // No descriptor with such a code is accepted.
         Kind::Unknown => leaf(body),
     }

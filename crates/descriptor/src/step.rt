@@ -1,6 +1,6 @@
 // What reading a part of a descriptor comes to.
 ghost use mathlib.Core.Path.{_≡_};
-ghost use Rattle.descriptor.specs.Places.{overrunPlace, countPlace, contentsPlace, restPlace};
+ghost use Rattle.descriptor.specs.Places.{codePlace, overrunPlace, countPlace, contentsPlace, restPlace};
 ghost use Rattle.descriptor.specs.inner.Steps.{refusedStep, readStep};
 
 // Where not `ok`, the refusal's number and place. Else the next byte, the number that was read for (a count, a name's length, how many
@@ -41,6 +41,13 @@ pub fn accept(next: usize, value: usize, children: usize) -> Step
 }
 
 // The refusals of the descriptor that starts at p, with their places.
+
+// 5: it is not carried.
+pub fn not_carried(p: usize) -> Step
+    ensures { λ r. ⌜ r ≡ refusedStep 5 (codePlace p) ⌝ }
+{
+    refuse(5, p)
+}
 
 // 8: its body does not fit; it ends at `stop`.
 pub fn overrun(p: usize, stop: usize) -> Step

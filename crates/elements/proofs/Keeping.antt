@@ -10,10 +10,11 @@ use native.Mathlib.Numerals.{add-one}
 use native.Mathlib.Omega.{arith}
 use borrow.Author.Tests.{lt-ltb}
 use lib.ListN.{length}
-use Rattle.descriptor.specs.Codes.{cluster, kindOf}
+use Rattle.descriptor.specs.Codes.{kindOf}
 use Rattle.descriptor.specs.Header.{codeIn, sizeIn}
-use Rattle.descriptor.specs.Tree.{Name, Fields, empty, items, pairs, text, dimensions, members, Tree, node, Forest, nil, cons}
+use Rattle.descriptor.specs.Tree.{Name, Fields, empty, items, pairs, text, dimensions, members, subtype, Tree, node, Forest, nil, cons}
 use Rattle.descriptor.specs.Width.{widthOf}
+use Rattle.descriptor.specs.inner.Steps.{isCompound}
 use Rattle.descriptor.specs.inner.Standing.{forestOf, insideOf, Stands}
 use Rattle.descriptor.specs.declared.inside.Inside.{Inside}
 use Rattle.descriptor.proofs.Standing.{row-none}
@@ -29,7 +30,7 @@ use Rattle.flattened.specs.declared.extent.Rule.the-variants.{Any, Below}
 use Rattle.flattened.specs.declared.extent.Extent.{Extent}
 use Rattle.flattened.specs.declared.extent.Extent.the-variants.{Varies, Fixed, Around}
 use Rattle.flattened.proofs.Codes.{isMeasured}
-use Rattle.flattened.proofs.Cases.{hasInside, it, ruled, is-measured, not-measured, start, types-inside, extent-members}
+use Rattle.flattened.proofs.Cases.{compound-inside, it, ruled, is-measured, not-measured, start, types-inside, extent-members}
 use Rattle.flattened.proofs.Extents.{joint-assoc}
 use Rattle.flattened.proofs.ExtentTurns.{Small, small-least, type-few, none-joint}
 use Rattle.flattened.proofs.Types.{RowTurn, row-turn}
@@ -68,6 +69,7 @@ module _ (o : Order) (s : List ℕ) where
     calm-kept (node c text f m) e at = tt
     calm-kept (node c (dimensions k) f m) e at = tt
     calm-kept (node c (members k) f m) e at = calm-all f e at
+    calm-kept (node c subtype f m) e at = calm-all f e at
 
     calm-all : (f : Forest) → judgedIn (extentAll f) ≡ false → (at : ℕ) → KeptAll o s f at
     calm-all nil e at = tt
@@ -108,7 +110,7 @@ ahead-joint (Around u v n i) (Fixed w k j) p size h b t = record { bytes = omega
 ahead-joint (Around u v n i) (Around c e m j) p size h b t = record { bytes = omega arith; tokens = omega arith }
 
 module _ (o : Order) (s : List ℕ) (at : ℕ) where
-  -- a scalar whose number keeps its rule, a cluster whose members do, and any other type
+  -- a scalar whose number keeps its rule, a compound whose parts do, and any other type
   scalar-kept : (c : ℕ) (b : Fields) (f : Forest) (m : Name) → isMeasured (fieldsKind b) ≡ true
       → keeps (ruleOf c b) (numberAt o s at (widthOf c)) ≡ true → Kept o s (node c b f m) at
   unfolding isMeasured fieldsKind Kept KeptFields
@@ -118,24 +120,27 @@ module _ (o : Order) (s : List ℕ) (at : ℕ) where
   scalar-kept c text f m e h = tt
   scalar-kept c (dimensions k) f m e h = tt
   scalar-kept c (members k) f m e h = impossible e
+  scalar-kept c subtype f m e h = impossible e
 
-  members-kept : (c : ℕ) (b : Fields) (f : Forest) (m : Name) → fieldsKind b ≡ cluster → KeptAll o s f at → Kept o s (node c b f m) at
+  compound-kept : (c : ℕ) (b : Fields) (f : Forest) (m : Name) → isCompound (fieldsKind b) ≡ true → KeptAll o s f at → Kept o s (node c b f m) at
   unfolding fieldsKind Kept KeptFields
-  members-kept c empty f m e h = cc
-  members-kept c (items xs) f m e h = cc
-  members-kept c (pairs ps) f m e h = cc
-  members-kept c text f m e h = tt
-  members-kept c (dimensions k) f m e h = tt
-  members-kept c (members k) f m e h = h
+  compound-kept c empty f m e h = impossible e
+  compound-kept c (items xs) f m e h = impossible e
+  compound-kept c (pairs ps) f m e h = impossible e
+  compound-kept c text f m e h = tt
+  compound-kept c (dimensions k) f m e h = tt
+  compound-kept c (members k) f m e h = h
+  compound-kept c subtype f m e h = h
 
-  rest-kept : (c : ℕ) (b : Fields) (f : Forest) (m : Name) → isMeasured (fieldsKind b) ≡ false → (cluster ≡ fieldsKind b → ⊥) → Kept o s (node c b f m) at
+  rest-kept : (c : ℕ) (b : Fields) (f : Forest) (m : Name) → isMeasured (fieldsKind b) ≡ false → isCompound (fieldsKind b) ≡ false → Kept o s (node c b f m) at
   unfolding isMeasured fieldsKind Kept KeptFields
   rest-kept c empty f m e h = cc
   rest-kept c (items xs) f m e h = cc
   rest-kept c (pairs ps) f m e h = cc
   rest-kept c text f m e h = tt
   rest-kept c (dimensions k) f m e h = tt
-  rest-kept c (members k) f m e h = absurd (h refl)
+  rest-kept c (members k) f m e h = impossible (sym h)
+  rest-kept c subtype f m e h = impossible (sym h)
 
   -- the type that stands at p, by its code
   module _ (d : List ℕ) (p : ℕ) (here : Stands d p) where
@@ -149,26 +154,24 @@ module _ (o : Order) (s : List ℕ) (at : ℕ) where
         subst (λ (t : Tree). Kept o s t at) (sym (made .tree))
         (scalar-kept (made .code) (made .fields) (made .inner) (made .name) (is-measured d p here some) own)
 
-    pub kept-members : (i : Inside) → i ≡ insideOf d p → cluster ≡ kindOf (codeIn d p) → KeptAll o s (typesAt d (i .children) (i .at)) at → Kept o s (typeAt d p) at
-    unfolding hasInside
+    pub kept-members : (i : Inside) → i ≡ insideOf d p → isCompound (kindOf (codeIn d p)) ≡ true → KeptAll o s (typesAt d (i .children) (i .at)) at → Kept o s (typeAt d p) at
     kept-members i read k h =
         let made = it d p here in
-        let inner = subst (λ (f : Forest). KeptAll o s f at) (types-inside d p here i read (sym (ap hasInside k))) h in
+        let inner = subst (λ (f : Forest). KeptAll o s f at) (types-inside d p here i read (compound-inside _ k)) h in
         subst (λ (t : Tree). Kept o s t at) (sym (made .tree))
-        (members-kept (made .code) (made .fields) (made .inner) (made .name) (made .kind ∙ sym k) inner)
+        (compound-kept (made .code) (made .fields) (made .inner) (made .name) (ap isCompound (made .kind) ∙ k) inner)
 
-    pub kept-other : widthOf (codeIn d p) ≡ 0 → (cluster ≡ kindOf (codeIn d p) → ⊥) → Kept o s (typeAt d p) at
+    pub kept-other : widthOf (codeIn d p) ≡ 0 → isCompound (kindOf (codeIn d p)) ≡ false → Kept o s (typeAt d p) at
     kept-other none h =
         let made = it d p here in
         subst (λ (t : Tree). Kept o s t at) (sym (made .tree))
-        (rest-kept (made .code) (made .fields) (made .inner) (made .name) (not-measured d p here none) (λ k. h (k ∙ made .kind)))
+        (rest-kept (made .code) (made .fields) (made .inner) (made .name) (not-measured d p here none) (ap isCompound (made .kind) ∙ h))
 
--- what goes before a cluster goes before its members
-module _ (d : List ℕ) (p : ℕ) (here : Stands d p) (i : Inside) (read : i ≡ insideOf d p) (k : cluster ≡ kindOf (codeIn d p)) (front : Extent) where
+-- what goes before a compound goes before its parts
+module _ (d : List ℕ) (p : ℕ) (here : Stands d p) (i : Inside) (read : i ≡ insideOf d p) (k : isCompound (kindOf (codeIn d p)) ≡ true) (front : Extent) where
   pub ahead-inside : Ahead front p → Ahead front (i .at)
-  unfolding hasInside
   ahead-inside h =
-      let after : p ≤ i .at = omega (arith, start d p here i read (sym (ap hasInside k))) in
+      let after : p ≤ i .at = omega (arith, start d p here i read (compound-inside _ k)) in
       record { bytes = omega (arith, h .bytes); tokens = omega (arith, h .tokens) }
 
   pub definite-inside : Definite (joint front (extentOf (typeAt d p))) → Definite (joint front (extentAll (typesAt d (i .children) (i .at))))

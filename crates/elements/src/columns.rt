@@ -1,7 +1,6 @@
 // The judged numbers of an array's elements, column by column: those that stand at one place in every element are looked at in one loop.
 use super::largest::low;
-use descriptor::codes::Kind;
-use descriptor::codes::kind_of;
+use descriptor::codes::is_compound;
 use descriptor::header::code_at;
 use descriptor::header::size_at;
 use descriptor::inside::inside_of;
@@ -221,8 +220,7 @@ fn columns_of(
     if w != 0 {
         return scalar_column(d, p, w, front, whole, n, s, at, o);
     }
-    let k = kind_of(code);
-    if let Kind::Cluster = k {
+    if is_compound(code) {
         let inside = inside_of(d, p);
         return columns_row(
             d,

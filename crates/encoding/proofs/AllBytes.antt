@@ -5,8 +5,9 @@ use Prim.Native.Nat.{ℕ, suc, _+_, _*_, _%_, _<_}
 use native.Mathlib.Omega.{arith}
 use lib.ListN.{length, replicate}
 use Rattle.descriptor.specs.Codes.{Kind, kindOf, isArray}
-use Rattle.descriptor.specs.Tree.{Name, unnamed, named, Pair, Fields, empty, items, pairs, text, dimensions, members, Tree, node, Forest, nil, cons, itemsSize, insideAt, treeSize}
+use Rattle.descriptor.specs.Tree.{Name, unnamed, named, Pair, Fields, empty, items, pairs, text, dimensions, members, subtype, Tree, node, Forest, nil, cons, itemsSize, insideAt, treeSize}
 use Rattle.descriptor.specs.Encoding.{word, packed, pairBytes, fill, fieldBytes, nameBytes, encodeWith, forestWith, encode, Bytes, AllChars, NameFits, FieldsFit, WellFormed, AllWellFormed, WithinLimits}
+use Rattle.descriptor.specs.Stamp.{stampSubtype}
 use Rattle.encoding.proofs.Slices.{bytes-append, bytes-replicate, bytes-beBytes}
 
 -- packed Pascal strings are bytes
@@ -34,6 +35,7 @@ fields-bytes k (pairs ps) h = bytes-append (word (length ps)) (pairBytes ps) (by
 fields-bytes k text h = bytes-replicate 4 255 (omega arith)
 fields-bytes k (dimensions d) h = bytes-append (word d) (replicate (4 * d) 255) (bytes-beBytes 2 d) (bytes-replicate (4 * d) 255 (omega arith))
 fields-bytes k (members j) h = bytes-beBytes 2 j
+fields-bytes k subtype h = bytes-beBytes 2 stampSubtype
 
 -- a name
 name-bytes : (m : Name) → NameFits m → Bytes (nameBytes m)

@@ -12,17 +12,19 @@ use lib.Seq.{slice}
 use Rattle.number.specs.Endian.{be, beBytes}
 use Rattle.number.proofs.Writing.{length-beBytes}
 use Rattle.descriptor.specs.Limits.{rowLimit, dimensionLimit, pairLimit, countLimit, highBit, fixedWord}
-use Rattle.descriptor.specs.Codes.{Kind, kindOf, isCarried, isArray}
+use Rattle.descriptor.specs.Codes.{Kind, kindOf, isCarried, isArray, isStamp}
 use Rattle.descriptor.specs.Header.{headerSize, reservedAt, codeAt, bodyAt, sizeIn, codeIn}
-use Rattle.descriptor.specs.Tree.{Name, unnamed, named, Pair, Fields, empty, items, pairs, text, dimensions, members, Tree, node, Forest, nil, cons, childCount, insideAt, itemsSize, fieldsSize, nameSize, treeSize, forestSize, forestLength, rowCount, forestRows, height, forestHeight}
+use Rattle.descriptor.specs.Tree.{Name, unnamed, named, Pair, Fields, empty, items, pairs, text, dimensions, members, subtype, Tree, node, Forest, nil, cons, childCount, insideAt, itemsSize, fieldsSize, nameSize, treeSize, forestSize, forestLength, rowCount, forestRows, height, forestHeight}
 use Rattle.descriptor.specs.Encoding.{word, pascal, packed, pairBytes, fill, fieldBytes, nameBytes, encodeWith, forestWith, AllPairs, Counted, FieldsFit, WellFormed, AllWellFormed}
+use Rattle.descriptor.specs.Stamp.{stampSubtype, stampInside}
 use Rattle.descriptor.specs.Outcome.{Outcome, read, andThen, require}
 use Rattle.descriptor.specs.Places.{overrunPlace, contentsPlace}
 use Rattle.descriptor.specs.Check.{headerAt, countAt, runAt, itemAt, itemsAt, pairsAt, judged, baseFits, wordFits, fillAt, fieldsAt, membersAt, nameAt, nodeAt, treeAt}
 use Rattle.descriptor.proofs.Sizes.{both-true}
-use Rattle.descriptor.proofs.FieldKinds.{plain-fields, enumeration-fields, quantity-fields, string-fields, array-fields, cluster-fields}
+use Rattle.descriptor.proofs.FieldKinds.{plain-fields, enumeration-fields, quantity-fields, string-fields, array-fields, cluster-fields, stamp-fields}
 use Rattle.encoding.proofs.Slices.{slice-split, slice-first, slice-be}
 use Rattle.encoding.proofs.Lengths.{fill-odd, packed-length, fields-length, forest-length, tree-length, tree-even}
+use Rattle.encoding.proofs.Stamps.{stamp-passes}
 
 -- a test that holds is passed
 pub pass : {A : Type 0} {b : Bool} (number place : ℕ) {o u : Outcome A} → b ≡ true → o ≡ u → require b number place o ≡ u
@@ -49,6 +51,7 @@ carried k (pairs ps) e = ap isCarried (e .0)
 carried k text e = ap isCarried e
 carried k (dimensions d) e = ap isCarried (e .0)
 carried k (members j) e = ap isCarried (e .0)
+carried k subtype e = ap isCarried e
 
 module _ (s : List ℕ) where
   -- a word
@@ -221,6 +224,10 @@ module _ (s : List ℕ) where
         let at : ℕ = bodyAt p in
         ap (λ (j : Kind). fieldsAt j s p at stop) (fit .0) ∙ cluster-fields s p at stop
         ∙ onward _ (count-complete at countLimit j room e (fit .1) (omega arith)) refl
+    fields-complete k subtype fit room e =
+        let at : ℕ = bodyAt p in
+        ap (λ (j : Kind). fieldsAt j s p at stop) fit ∙ stamp-fields s p at stop
+        ∙ pass _ _ (le-leb (at + 2) stop room) (pass _ _ (eq-eqb (be s at 2) stampSubtype (word-read at (at + 2) stampSubtype refl (omega arith) e)) refl)
 
     -- a name
     pub name-complete : (at : ℕ) (m : Name) → stop ≡ at + nameSize m → slice at stop s ≡ nameBytes m → nameAt s p stop at ≡ read stop m
@@ -249,13 +256,13 @@ module _ (s : List ℕ) where
 
   -- a descriptor of these parts and that size, whose children f reads
   node-complete : (f : Bool → ℕ → ℕ → ℕ → Outcome Tree) (r : ℕ → ℕ) (p n size c : ℕ) (b : Fields) (ts : Forest) (m : Name)
-      → size ≡ treeSize (node c b ts m) → p + size ≤ length s → FieldsFit (kindOf c) b
+      → size ≡ treeSize (node c b ts m) → p + size ≤ length s → FieldsFit (kindOf c) b → (isStamp (kindOf c) ≡ true → ts ≡ stampInside)
       → slice (bodyAt p) (p + size) s ≡ fieldBytes b ++ (forestWith r (insideAt p b) ts ++ nameBytes m)
       → (slice (insideAt p b) (insideAt p b + forestSize ts) s ≡ forestWith r (insideAt p b) ts
       → membersAt (f (isArray (kindOf c)) (p + size)) (childCount b) (insideAt p b) (n + 1) ≡ read (insideAt p b + forestSize ts) ts)
       → nodeAt s f p n (bodyAt p) (record { size = size; code = c }) ≡ read (p + size) (node c b ts m)
   unfolding nodeAt treeSize
-  node-complete f r p n size c b ts m sized inside fit e children =
+  node-complete f r p n size c b ts m sized inside fit stamped e children =
       let at : ℕ = insideAt p b in
       let v = slice-split (fieldBytes b) (forestWith r at ts ++ nameBytes m) (bodyAt p) at (p + size) s
       (omega (arith, fields-length b)) (omega arith) inside e in
@@ -263,7 +270,8 @@ module _ (s : List ℕ) where
       (omega (arith, forest-length ts r at)) (omega arith) inside (v .1) in
       onward _ (fields-complete p (p + size) inside (kindOf c) b fit (omega arith) (v .0))
       (onward _ (children (w .0))
-      (onward _ (name-complete p (p + size) inside (at + forestSize ts) m (omega arith) (w .1)) refl))
+      (pass _ _ (stamp-passes (kindOf c) ts stamped)
+      (onward _ (name-complete p (p + size) inside (at + forestSize ts) m (omega arith) (w .1)) refl)))
 
   mutual
     unfolding treeAt membersAt treeSize encodeWith WellFormed rowCount height forestLength
@@ -283,7 +291,7 @@ module _ (s : List ℕ) where
         onward _
         (header-complete (suc d) a end p n size c (word-read p (reservedAt p) size refl (omega arith) (w .0)) (u .0) room (tree-even (node c b f m)) (omega arith) small
         (carried (kindOf c) b (formed .fields)) (omega arith) (omega arith) (formed .element))
-        (node-complete (λ a stop q m. treeAt d s a stop q m) r p n size c b f m refl (omega arith) (formed .fields) (u .1)
+        (node-complete (λ a stop q m. treeAt d s a stop q m) r p n size c b f m refl (omega arith) (formed .fields) (formed .stamped) (u .1)
         (λ i.
         ap (λ (k : ℕ). membersAt (λ q m. treeAt d s (isArray (kindOf c)) (p + size) q m) k (insideAt p b) (n + 1)) (sym (formed .children))
         ∙ forest-complete f d (isArray (kindOf c)) (p + size) (insideAt p b) (n + 1) r (omega arith) (omega arith) (omega arith) i (formed .inside)

@@ -5,7 +5,7 @@ use Prim.Native.Nat.{ℕ, suc, _+_, _*_, _%_}
 use native.Mathlib.Omega.{arith}
 use lib.ListN.{length, replicate, length-append, length-replicate}
 use Rattle.number.specs.Endian.{beBytes}
-use Rattle.descriptor.specs.Tree.{Name, unnamed, named, Pair, Fields, empty, items, pairs, text, dimensions, members, Tree, node, Forest, nil, cons, itemsSize, fieldsSize, insideAt, nameSize, treeSize, forestSize}
+use Rattle.descriptor.specs.Tree.{Name, unnamed, named, Pair, Fields, empty, items, pairs, text, dimensions, members, subtype, Tree, node, Forest, nil, cons, itemsSize, fieldsSize, insideAt, nameSize, treeSize, forestSize}
 use Rattle.descriptor.specs.Encoding.{packed, pairBytes, fill, fieldBytes, nameBytes, encodeWith, forestWith}
 
 -- no byte after an even number of bytes
@@ -38,6 +38,7 @@ fields-length (pairs ps) = omega (arith, pairs-length ps)
 fields-length text = refl
 fields-length (dimensions d) = omega (arith, length-replicate {A = ℕ} (4 * d) 255)
 fields-length (members k) = refl
+fields-length subtype = refl
 
 -- a name
 pub name-length : (m : Name) → length (nameBytes m) ≡ nameSize m
@@ -75,6 +76,7 @@ fields-even (pairs ps) = omega arith
 fields-even text = refl
 fields-even (dimensions d) = omega arith
 fields-even (members k) = refl
+fields-even subtype = refl
 
 -- and so is a name's
 name-even : (m : Name) → nameSize m % 2 ≡ 0

@@ -13,15 +13,17 @@ use Rattle.number.specs.Endian.{be, beBytes}
 use Rattle.number.proofs.Reading.{be-bound}
 use Rattle.descriptor.specs.Limits.{rowLimit, dimensionLimit, pairLimit, countLimit}
 use Rattle.descriptor.specs.Header.{bodyAt, reservedAt, codeAt, sizeIn, codeIn, reservedIn}
-use Rattle.descriptor.specs.Codes.{Kind, plain, enumeration, quantity, string, array, cluster, unknown, kindOf, isArray}
+use Rattle.descriptor.specs.Codes.{Kind, plain, enumeration, quantity, string, array, cluster, stamp, unknown, kindOf, isArray}
 use Rattle.descriptor.specs.Tree.{Tree, Forest, insideAt, childCount, itemsSize, fieldsSize, nameSize, treeSize, forestSize, forestLength, rowCount, forestRows, height, forestHeight}
 use Rattle.descriptor.specs.Encoding.{word, pascal, packed, pairBytes, fill, fieldBytes, nameBytes, encodeWith, forestWith, Bytes, Chars, AllChars, AllPairs, NameFits, Counted, FieldsFit, WellFormed, AllWellFormed}
+use Rattle.descriptor.specs.Stamp.{stampSubtype, insideFits}
 use Rattle.descriptor.specs.Outcome.{Outcome, read}
 use Rattle.descriptor.specs.Check.{Header, itemAt, itemsAt, pairsAt, judged, baseFits, wordFits, fillAt, fieldsAt, membersAt, nameAt, nodeAt, treeAt}
 use Rattle.descriptor.proofs.Outcomes.{Holds, nothing, found, holds-read, holds-require, holds-cond, holds-andThen, holds-both, holds-weaken}
 use Rattle.descriptor.proofs.Sizes.{HeaderFits, header-fits, CountFits, count-fits, run-fits, length-pairsAt, item-ends, items-end, fields-end, name-ends}
-use Rattle.descriptor.proofs.FieldKinds.{plain-fields, enumeration-fields, quantity-fields, string-fields, array-fields, cluster-fields, unknown-fields}
+use Rattle.descriptor.proofs.FieldKinds.{plain-fields, enumeration-fields, quantity-fields, string-fields, array-fields, cluster-fields, stamp-fields, unknown-fields}
 use Rattle.encoding.proofs.Lengths.{fill-even, fill-odd}
+use Rattle.encoding.proofs.Stamps.{passes-stamp}
 use Rattle.encoding.proofs.Slices.{slice-then, slice-more, be-slice, bytes-slice, bytes-at}
 
 -- the tree t, read from p to q where n rows went before: `levels` are left of the depth, and its parent ends at `end`
@@ -219,6 +221,11 @@ module _ (s : List ℕ) (b : Bytes s) where
         rw (cluster-fields s p at stop)
         (holds-andThen (count-fits s p at stop countLimit) (λ next k c.
         found (count-spelled at countLimit next k c, (refl, record { least = c .least; within = c .limit }))))
+    fields-sound stamp at start h =
+        rw (stamp-fields s p at stop)
+        (holds-require (leb (at + 2) stop) _ _ (λ room.
+        holds-require (eqb (be s at 2) stampSubtype) _ _ (λ six.
+        found (word-spelled at (at + 2) refl (omega (arith, leb-true)) ∙ ap word (eqb-true _ _ six), refl))))
     fields-sound unknown at start h = rw (unknown-fields s p at stop) nothing
 
     -- a name
@@ -277,6 +284,7 @@ module _ (s : List ℕ) (b : Bytes s) where
       holds-andThen
       (members-sound s d (isArray kind) stop (f (isArray kind) stop) (λ q m. sound (isArray kind) stop q m fit) (childCount fs) at (n + 1) (i .0 .within)
       (omega (arith, fits .rows))) (λ next ts es.
+      holds-require (insideFits kind ts) _ _ (λ passed.
       holds-andThen (holds-both (name-ends s p stop fit next) (name-sound p stop fit next)) (λ last m e.
       let ends : last ≡ p + (4 + fieldsSize fs + forestSize ts + nameSize m) = omega (arith, i .0 .at, fits .body, es .size, e .0 .0) in
       let first : at ≡ insideAt p fs = omega (arith, i .0 .at, fits .body) in
@@ -297,12 +305,13 @@ module _ (s : List ℕ) (b : Bytes s) where
           element = fits .element;
           fields = i .1 .1;
           children = es .count;
+          stamped = passes-stamp kind (isArray kind) ts (es .formed) passed;
           inside = es .formed;
           name = e .1 .1;
         };
         rows = omega (arith, es .rows);
         depth = omega (arith, es .depth);
-      }))))
+      })))))
 
   -- a descriptor that is read is spelled by its bytes
   pub tree-sound : (levels : ℕ) (a : Bool) (end p n : ℕ) → end ≤ length s → Holds (λ q t. Sound s levels a end p n q t) (treeAt levels s a end p n)

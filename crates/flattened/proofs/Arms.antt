@@ -7,9 +7,11 @@ use Prim.Native.Nat.{ℕ}
 use native.Mathlib.Omega.{arith}
 use borrow.Author.Tests.{eqb-true}
 use lib.Dec.{eqb}
-use Rattle.descriptor.specs.Codes.{enumeration, string, array, cluster, kindOf, booleanCode}
-use Rattle.descriptor.specs.Tree.{Name, Fields, empty, items, pairs, text, dimensions, members, Tree, node, Forest, nil, cons, countOf}
+use Rattle.descriptor.specs.Codes.{enumeration, string, array, kindOf, booleanCode}
+use Rattle.descriptor.specs.Tree.{Name, Fields, empty, items, pairs, text, dimensions, members, subtype, Tree, node, Forest, nil, cons, countOf}
 use Rattle.descriptor.specs.Width.{widthOf}
+use Rattle.descriptor.specs.inner.Steps.{isCompound}
+use Rattle.descriptor.proofs.Steps.{impossible}
 use Rattle.flattened.specs.Order.{Order}
 use Rattle.flattened.specs.Walk.{textAt, walkFields, walk, walkAll}
 use Rattle.flattened.specs.inner.Extent.{isScalar, ruleOf, judges, extentFields, extentOf, extentAll}
@@ -30,6 +32,7 @@ measured-scalar (pairs ps) e = refl
 measured-scalar text e = e
 measured-scalar (dimensions k) e = e
 measured-scalar (members k) e = e
+measured-scalar subtype e = e
 
 -- the fields that a kind has
 is-text : (b : Fields) → fieldsKind b ≡ string → b ≡ text
@@ -40,6 +43,7 @@ is-text (pairs ps) e = cc
 is-text text e = refl
 is-text (dimensions k) e = cc
 is-text (members k) e = cc
+is-text subtype e = cc
 
 is-dimensions : (b : Fields) → fieldsKind b ≡ array → b ≡ dimensions (countOf b)
 unfolding fieldsKind countOf
@@ -49,15 +53,7 @@ is-dimensions (pairs ps) e = cc
 is-dimensions text e = cc
 is-dimensions (dimensions k) e = refl
 is-dimensions (members k) e = cc
-
-is-members : (b : Fields) → fieldsKind b ≡ cluster → b ≡ members (countOf b)
-unfolding fieldsKind countOf
-is-members empty e = cc
-is-members (items xs) e = cc
-is-members (pairs ps) e = cc
-is-members text e = cc
-is-members (dimensions k) e = cc
-is-members (members k) e = refl
+is-dimensions subtype e = cc
 
 module _ (c : ℕ) (b : Fields) (f : Forest) (m : Name) where
   module _ (o : Order) (s : List ℕ) (at : ℕ) where
@@ -74,9 +70,18 @@ module _ (c : ℕ) (b : Fields) (f : Forest) (m : Name) where
     unfolding walk walkFields
     walk-array e = ap (λ (x : Fields). walk o (node c x f m) s at) (is-dimensions b e)
 
-    pub walk-cluster : fieldsKind b ≡ cluster → walk o (node c b f m) s at ≡ walkAll o f s at
-    unfolding walk walkFields
-    walk-cluster e = ap (λ (x : Fields). walk o (node c x f m) s at) (is-members b e)
+    pub walk-compound : isCompound (fieldsKind b) ≡ true → walk o (node c b f m) s at ≡ walkAll o f s at
+    unfolding walk walkFields fieldsKind
+    walk-compound e = go b e
+      where
+        go : (b : Fields) → isCompound (fieldsKind b) ≡ true → walk o (node c b f m) s at ≡ walkAll o f s at
+        go empty e = impossible e
+        go (items xs) e = impossible e
+        go (pairs ps) e = impossible e
+        go text e = impossible e
+        go (dimensions k) e = impossible e
+        go (members k) e = refl
+        go subtype e = refl
 
   -- the extent
   pub extent-scalar : isMeasured (fieldsKind b) ≡ true → extentOf (node c b f m) ≡ Fixed (widthOf c) 1 (judges (ruleOf c b))
@@ -90,10 +95,20 @@ module _ (c : ℕ) (b : Fields) (f : Forest) (m : Name) where
       go text e = cc
       go (dimensions k) e = cc
       go (members k) e = cc
+      go subtype e = cc
 
-  pub extent-cluster : fieldsKind b ≡ cluster → extentOf (node c b f m) ≡ extentAll f
-  unfolding extentOf extentFields
-  extent-cluster e = ap (λ (x : Fields). extentOf (node c x f m)) (is-members b e)
+  pub extent-compound : isCompound (fieldsKind b) ≡ true → extentOf (node c b f m) ≡ extentAll f
+  unfolding extentOf extentFields fieldsKind
+  extent-compound e = go b e
+    where
+      go : (b : Fields) → isCompound (fieldsKind b) ≡ true → extentOf (node c b f m) ≡ extentAll f
+      go empty e = impossible e
+      go (items xs) e = impossible e
+      go (pairs ps) e = impossible e
+      go text e = impossible e
+      go (dimensions k) e = impossible e
+      go (members k) e = refl
+      go subtype e = refl
 
 -- the rule
 pub rule-enumeration : (c : ℕ) (b : Fields) → fieldsKind b ≡ enumeration → ruleOf c b ≡ Below (countOf b) 23
@@ -104,6 +119,7 @@ rule-enumeration c (pairs ps) e = cc
 rule-enumeration c text e = cc
 rule-enumeration c (dimensions k) e = cc
 rule-enumeration c (members k) e = cc
+rule-enumeration c subtype e = cc
 
 pub rule-other : (c : ℕ) (b : Fields) → (fieldsKind b ≡ enumeration → ⊥) → ruleOf c b ≡ cond (eqb c booleanCode) (Below 2 24) Any
 unfolding fieldsKind ruleOf
@@ -113,6 +129,7 @@ rule-other c (pairs ps) h = refl
 rule-other c text h = refl
 rule-other c (dimensions k) h = refl
 rule-other c (members k) h = refl
+rule-other c subtype h = refl
 
 -- only an enumeration and a Boolean have a rule
 pub below-kind : (c : ℕ) (b : Fields) (limit number : ℕ) → fieldsKind b ≡ kindOf c → Below limit number ≡ ruleOf c b → (enumeration ≡ kindOf c) ⊎ (c ≡ booleanCode)
@@ -130,6 +147,7 @@ below-kind c b limit number k e = go b k e
     go text k e = flag (eqb c booleanCode) refl e
     go (dimensions n) k e = flag (eqb c booleanCode) refl e
     go (members n) k e = flag (eqb c booleanCode) refl e
+    go subtype k e = flag (eqb c booleanCode) refl e
 
 -- one type in a row
 pub walk-one : (o : Order) (t : Tree) (s : List ℕ) (at : ℕ) → walkAll o (cons t nil) s at ≡ walk o t s at

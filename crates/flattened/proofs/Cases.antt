@@ -7,10 +7,12 @@ use Prim.Native.Nat.{ℕ, _-_, _<_}
 use native.Mathlib.Omega.{arith}
 use borrow.Author.Tests.{eq-eqb, ne-eqb}
 use lib.Dec.{eqb}
-use Rattle.descriptor.specs.Codes.{Kind, plain, enumeration, quantity, string, array, cluster, unknown, kindOf, booleanCode}
+use Rattle.descriptor.specs.Codes.{Kind, plain, enumeration, quantity, string, array, cluster, stamp, unknown, kindOf, booleanCode}
 use Rattle.descriptor.specs.Header.{codeIn}
-use Rattle.descriptor.specs.Tree.{Name, Fields, empty, items, pairs, text, dimensions, members, Tree, node, Forest, countOf, childCount, insideAt}
+use Rattle.descriptor.specs.Tree.{Name, Fields, empty, items, pairs, text, dimensions, members, subtype, Tree, node, Forest, countOf, childCount, insideAt}
 use Rattle.descriptor.specs.Width.{widthOf}
+use Rattle.descriptor.specs.inner.Steps.{isCompound}
+use Rattle.descriptor.proofs.Steps.{impossible}
 use Rattle.descriptor.specs.inner.Standing.{contentsStart, insideOf, Stands}
 use Rattle.descriptor.specs.declared.inside.Inside.{Inside}
 use Rattle.flattened.specs.Order.{Order}
@@ -23,7 +25,7 @@ use Rattle.flattened.specs.declared.extent.Rule.the-variants.{Any, Below
 use Rattle.flattened.specs.declared.extent.Extent.the-variants.{Varies, Fixed, Around}
 use Rattle.flattened.proofs.Codes.{isMeasured, some-width, no-width, enumeration-narrow, boolean-narrow}
 use Rattle.flattened.proofs.Judged.{ruledAt}
-use Rattle.flattened.proofs.Arms.{walk-scalar, rule-enumeration, rule-other, below-kind, extent-scalar, extent-cluster}
+use Rattle.flattened.proofs.Arms.{walk-scalar, rule-enumeration, rule-other, below-kind, extent-scalar, extent-compound}
 use Rattle.flattened.proofs.Types.{TypeMade, type-made, type-inside}
 
 -- whether descriptors stand in bodies of the kind
@@ -34,7 +36,20 @@ hasInside quantity = false
 hasInside string = false
 hasInside array = true
 hasInside cluster = true
+hasInside stamp = true
 hasInside unknown = false
+
+-- whose data, but for an array's, is that of these descriptors
+pub compound-inside : (k : Kind) → isCompound k ≡ true → hasInside k ≡ true
+unfolding hasInside
+compound-inside plain e = e
+compound-inside enumeration e = e
+compound-inside quantity e = e
+compound-inside string e = e
+compound-inside array e = refl
+compound-inside cluster e = refl
+compound-inside stamp e = refl
+compound-inside unknown e = e
 
 -- they start right after the fields
 start-same : (p : ℕ) (b : Fields) → hasInside (fieldsKind b) ≡ true → contentsStart p b ≡ insideAt p b
@@ -45,27 +60,30 @@ start-same p (pairs ps) e = cc
 start-same p text e = cc
 start-same p (dimensions k) e = refl
 start-same p (members k) e = refl
+start-same p subtype e = refl
 
 -- fields that are no scalar's, no string's and no array's
-rest-members : (b : Fields) → isMeasured (fieldsKind b) ≡ false → (string ≡ fieldsKind b → ⊥) → (array ≡ fieldsKind b → ⊥) → cluster ≡ fieldsKind b
+rest-compound : (b : Fields) → isMeasured (fieldsKind b) ≡ false → (string ≡ fieldsKind b → ⊥) → (array ≡ fieldsKind b → ⊥) → isCompound (fieldsKind b) ≡ true
 unfolding isMeasured fieldsKind
-rest-members empty e s a = cc
-rest-members (items xs) e s a = cc
-rest-members (pairs ps) e s a = cc
-rest-members text e s a = absurd (s refl)
-rest-members (dimensions k) e s a = absurd (a refl)
-rest-members (members k) e s a = refl
+rest-compound empty e s a = cc
+rest-compound (items xs) e s a = cc
+rest-compound (pairs ps) e s a = cc
+rest-compound text e s a = absurd (s refl)
+rest-compound (dimensions k) e s a = absurd (a refl)
+rest-compound (members k) e s a = refl
+rest-compound subtype e s a = refl
 
--- fields that are no scalar's, no string's and no cluster's have no extent
+-- fields that are no scalar's, no string's and not those of a compound have no extent
 rest-varies : (c : ℕ) (b : Fields) (f : Forest) (m : Name) → isMeasured (fieldsKind b) ≡ false → (string ≡ fieldsKind b → ⊥)
-    → (cluster ≡ fieldsKind b → ⊥) → extentOf (node c b f m) ≡ Varies
+    → isCompound (fieldsKind b) ≡ false → extentOf (node c b f m) ≡ Varies
 unfolding isMeasured fieldsKind extentOf extentFields
 rest-varies c empty f m e s h = cc
 rest-varies c (items xs) f m e s h = cc
 rest-varies c (pairs ps) f m e s h = cc
 rest-varies c text f m e s h = absurd (s refl)
 rest-varies c (dimensions k) f m e s h = refl
-rest-varies c (members k) f m e s h = absurd (h refl)
+rest-varies c (members k) f m e s h = impossible (sym h)
+rest-varies c subtype f m e s h = impossible (sym h)
 
 -- a string's
 text-around : (c : ℕ) (b : Fields) (f : Forest) (m : Name) → fieldsKind b ≡ string → extentOf (node c b f m) ≡ Around 0 0 1 false
@@ -76,6 +94,7 @@ text-around c (pairs ps) f m e = cc
 text-around c text f m e = refl
 text-around c (dimensions k) f m e = cc
 text-around c (members k) f m e = cc
+text-around c subtype f m e = cc
 
 module _ (d : List ℕ) (p : ℕ) (here : Stands d p) where
   abbrev pub it : TypeMade d p
@@ -141,17 +160,17 @@ module _ (d : List ℕ) (p : ℕ) (here : Stands d p) where
       go true h = absurd (omega (arith, some-width (codeIn d p) h))
       go false h = ap isMeasured (it .kind) ∙ h
 
-  -- it is a cluster where it is no string and no array
-  pub is-cluster : widthOf (codeIn d p) ≡ 0 → (string ≡ kindOf (codeIn d p) → ⊥) → (array ≡ kindOf (codeIn d p) → ⊥) → cluster ≡ kindOf (codeIn d p)
-  is-cluster e s a = rest-members (it .fields) (not-measured e) (λ h. s (h ∙ it .kind)) (λ h. a (h ∙ it .kind)) ∙ it .kind
+  -- it is a compound where it is no string and no array
+  pub compound : widthOf (codeIn d p) ≡ 0 → (string ≡ kindOf (codeIn d p) → ⊥) → (array ≡ kindOf (codeIn d p) → ⊥) → isCompound (kindOf (codeIn d p)) ≡ true
+  compound e s a = ap isCompound (sym (it .kind)) ∙ rest-compound (it .fields) (not-measured e) (λ h. s (h ∙ it .kind)) (λ h. a (h ∙ it .kind))
 
   pub extent-text : string ≡ kindOf (codeIn d p) → Around 0 0 1 false ≡ extentOf (typeAt d p)
   extent-text k = sym (ap extentOf (it .tree) ∙ text-around (it .code) (it .fields) (it .inner) (it .name) (it .kind ∙ sym k))
 
-  pub extent-other : widthOf (codeIn d p) ≡ 0 → (string ≡ kindOf (codeIn d p) → ⊥) → (cluster ≡ kindOf (codeIn d p) → ⊥) → Varies ≡ extentOf (typeAt d p)
+  pub extent-other : widthOf (codeIn d p) ≡ 0 → (string ≡ kindOf (codeIn d p) → ⊥) → isCompound (kindOf (codeIn d p)) ≡ false → Varies ≡ extentOf (typeAt d p)
   extent-other e s h =
       sym (ap extentOf (it .tree)
-      ∙ rest-varies (it .code) (it .fields) (it .inner) (it .name) (not-measured e) (λ k. s (k ∙ it .kind)) (λ k. h (k ∙ it .kind)))
+      ∙ rest-varies (it .code) (it .fields) (it .inner) (it .name) (not-measured e) (λ k. s (k ∙ it .kind)) (ap isCompound (it .kind) ∙ h))
 
   -- what stands inside, where descriptors do, as the code reads it
   module _ (i : Inside) (read : i ≡ insideOf d p) where
@@ -168,11 +187,10 @@ module _ (d : List ℕ) (p : ℕ) (here : Stands d p) where
       pub types-inside : typesAt d (i .children) (i .at) ≡ it .inner
       types-inside = (λ j. typesAt d (children j) (start j)) ∙ it .types
 
-    pub extent-members : cluster ≡ kindOf (codeIn d p) → extentAll (typesAt d (i .children) (i .at)) ≡ extentOf (typeAt d p)
-    unfolding hasInside
+    pub extent-members : isCompound (kindOf (codeIn d p)) ≡ true → extentAll (typesAt d (i .children) (i .at)) ≡ extentOf (typeAt d p)
     extent-members k =
-        ap extentAll (types-inside (sym (ap hasInside k)))
-        ∙ sym (ap extentOf (it .tree) ∙ extent-cluster (it .code) (it .fields) (it .inner) (it .name) (it .kind ∙ sym k))
+        ap extentAll (types-inside (compound-inside _ k))
+        ∙ sym (ap extentOf (it .tree) ∙ extent-compound (it .code) (it .fields) (it .inner) (it .name) (ap isCompound (it .kind) ∙ k))
 
 -- the types inside a type have the levels that it leaves
 pub row-inside : (d : List ℕ) (p left : ℕ) (type : TypeStands d p left) (i : Inside) → i ≡ insideOf d p → hasInside (kindOf (codeIn d p)) ≡ true

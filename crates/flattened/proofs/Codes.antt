@@ -7,7 +7,8 @@ use native.Mathlib.Decide.{decLt}
 use native.Mathlib.Omega.{arith}
 use borrow.Author.Tests.{eqb-true, eqb-false, leb-true, le-leb, lt-leb, ne-eqb, eq-eqb, not-true, not-false}
 use lib.Dec.{leb, eqb}
-use Rattle.descriptor.specs.Codes.{Kind, plain, enumeration, quantity, string, array, cluster, unknown, kindOf}
+use Rattle.descriptor.specs.Codes.{Kind, plain, enumeration, quantity, string, array, cluster, stamp, unknown, kindOf}
+use Rattle.descriptor.specs.inner.Steps.{isEnumeration}
 use Rattle.descriptor.proofs.Sizes.{and-true}
 use Rattle.descriptor.specs.Width.{widthOf}
 use Rattle.flattened.specs.inner.Order.{Narrow}
@@ -38,16 +39,8 @@ isMeasured quantity = true
 isMeasured string = false
 isMeasured array = false
 isMeasured cluster = false
+isMeasured stamp = false
 isMeasured unknown = false
-
-isEnumeration : Kind → Bool
-isEnumeration plain = false
-isEnumeration enumeration = true
-isEnumeration quantity = false
-isEnumeration string = false
-isEnumeration array = false
-isEnumeration cluster = false
-isEnumeration unknown = false
 
 -- whether two tests say the same
 same : Bool → Bool → Bool
@@ -67,7 +60,7 @@ test c =
     && (leb (widthOf c) 32 && (not (isEnumeration (kindOf c) || eqb c 33) || (eqb (widthOf c) 1 || (eqb (widthOf c) 2 || eqb (widthOf c) 4))))
 
 all-pass : passes test 34 ≡ true
-unfolding passes test same widthOf kindOf isMeasured isEnumeration
+unfolding passes test same widthOf kindOf isMeasured
 all-pass = refl
 
 -- its three parts at a code
@@ -84,19 +77,20 @@ in-table c h =
     record { width = same-is _ _ (first .0); most = leb-true _ _ (second .0); narrow = second .1 }
 
 -- the kind of a code that is past the table, whatever the tests of the other codes say
-past-kinds : (a b c : Bool) → (isMeasured (cond a string (cond b array (cond c cluster unknown))) ≡ false)
-    × (isEnumeration (cond a string (cond b array (cond c cluster unknown))) ≡ false)
-unfolding isMeasured isEnumeration
-past-kinds true b c = (refl, refl)
-past-kinds false true c = (refl, refl)
-past-kinds false false true = (refl, refl)
-past-kinds false false false = (refl, refl)
+past-kinds : (a b c d : Bool) → (isMeasured (cond a string (cond b array (cond c cluster (cond d stamp unknown)))) ≡ false)
+    × (isEnumeration (cond a string (cond b array (cond c cluster (cond d stamp unknown)))) ≡ false)
+unfolding isMeasured
+past-kinds true b c d = (refl, refl)
+past-kinds false true c d = (refl, refl)
+past-kinds false false true d = (refl, refl)
+past-kinds false false false true = (refl, refl)
+past-kinds false false false false = (refl, refl)
 
 module _ (c : ℕ) (h : 34 ≤ c) where
   other : c ≡ 33 → ⊥
   other e = omega arith
 
-  past-kind : kindOf c ≡ cond (eqb c 48) string (cond (eqb c 64) array (cond (eqb c 80) cluster unknown))
+  past-kind : kindOf c ≡ cond (eqb c 48) string (cond (eqb c 64) array (cond (eqb c 80) cluster (cond (eqb c 84) stamp unknown)))
   unfolding kindOf
   past-kind =
       simp (le-leb 1 c (omega arith), lt-leb c 14 (omega arith), ne-eqb c 33 other, le-leb 21 c (omega arith), lt-leb c 23 (omega arith), le-leb 25 c (omega arith), lt-leb c 30 (omega arith))
@@ -104,7 +98,7 @@ module _ (c : ℕ) (h : 34 ≤ c) where
   past-table : Parts c
   past-table =
       let none : widthOf c ≡ 0 = none-past c h in
-      let kinds = past-kinds (eqb c 48) (eqb c 64) (eqb c 80) in
+      let kinds = past-kinds (eqb c 48) (eqb c 64) (eqb c 80) (eqb c 84) in
       let plainly : isEnumeration (kindOf c) ≡ false = ap isEnumeration past-kind ∙ kinds .1 in
       record {
         width = ap isMeasured past-kind ∙ kinds .0 ∙ sym (ap not (eq-eqb (widthOf c) 0 none));
@@ -144,7 +138,6 @@ follows false b e h = cc
 
 -- an enumeration's and a Boolean's number is of one, two or four bytes
 pub enumeration-narrow : (c : ℕ) → kindOf c ≡ enumeration → Narrow (widthOf c)
-unfolding isEnumeration
 enumeration-narrow c e =
     let is : (isEnumeration (kindOf c) || eqb c 33) ≡ true = simp e in
     one-of (widthOf c) (follows _ _ (parts c .narrow) is)

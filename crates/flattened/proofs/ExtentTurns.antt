@@ -7,7 +7,7 @@ use Prim.Native.Nat.{ℕ, suc, _+_, _-_, _*_, _<_, _≤_}
 use native.Mathlib.Nat.{sub-zero}
 use native.Mathlib.Omega.{arith}
 use Rattle.descriptor.specs.Header.{sizeIn}
-use Rattle.descriptor.specs.Tree.{empty, items, pairs, text, dimensions, members, Tree, node, Forest, nil, cons, treeSize, forestSize, forestLength}
+use Rattle.descriptor.specs.Tree.{empty, items, pairs, text, dimensions, members, subtype, Tree, node, Forest, nil, cons, treeSize, forestSize, forestLength}
 use Rattle.descriptor.specs.inner.Standing.{forestOf}
 use Rattle.descriptor.proofs.Standing.{row-none}
 use Rattle.flattened.specs.inner.Types.{typeAt, typesAt, TypeStands, RowStands, SolidFields, Solid, AllSolid}
@@ -69,6 +69,8 @@ mutual
   type-small (node c text f m) solid = record { bytes = omega arith; tokens = omega arith; many = omega arith }
   type-small (node c (dimensions k) f m) solid = tt
   type-small (node c (members k) f m) solid =
+      small-more (forestLength f) 1 (extentAll f) (forestSize f) _ (solid .0) (omega arith) (row-small f (solid .1))
+  type-small (node c subtype f m) solid =
       small-more (forestLength f) 1 (extentAll f) (forestSize f) _ (solid .0) (omega arith) (row-small f (solid .1))
 
   row-small : (f : Forest) → AllSolid f → Small (forestLength f) (extentAll f) (forestSize f)

@@ -10,7 +10,7 @@ use native.Mathlib.Omega.{arith}
 use borrow.Author.Tests.{le-leb, lt-ltb}
 use lib.Dec.{leb, ltb}
 use lib.ListN.{length, length-append}
-use Rattle.descriptor.specs.Tree.{Fields, empty, items, pairs, text, dimensions, members, Tree, node, Forest, nil, cons}
+use Rattle.descriptor.specs.Tree.{Fields, empty, items, pairs, text, dimensions, members, subtype, Tree, node, Forest, nil, cons}
 use Rattle.descriptor.specs.Limits.{lengthLimit}
 use Rattle.descriptor.specs.Outcome.{Outcome}
 use Rattle.descriptor.proofs.Outcomes.{Holds, found, holds-require, holds-andThen}
@@ -184,6 +184,7 @@ module _ (s : List ℕ) where
   fields-extend o c text x kept inside each at = text-extends o _ at
   fields-extend o c (dimensions k) x kept inside each at = tt
   fields-extend o c (members k) x kept inside each at = each at
+  fields-extend o c subtype x kept inside each at = each at
 
   mutual
     unfolding walk extentOf Extends Kept

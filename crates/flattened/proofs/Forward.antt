@@ -9,7 +9,7 @@ use borrow.Author.Tests.{leb-true}
 use lib.Dec.{leb, ltb, eqb}
 use lib.ListN.{length, getD, length-append}
 use Rattle.descriptor.specs.Codes.{booleanCode}
-use Rattle.descriptor.specs.Tree.{Fields, empty, items, pairs, text, dimensions, members, Tree, node, Forest, nil, cons, forestLength}
+use Rattle.descriptor.specs.Tree.{Fields, empty, items, pairs, text, dimensions, members, subtype, Tree, node, Forest, nil, cons, forestLength}
 use Rattle.descriptor.specs.Outcome.{Outcome}
 use Rattle.descriptor.proofs.Outcomes.{Holds, found, holds-require, holds-andThen, holds-weaken}
 use Rattle.descriptor.specs.Width.{widthOf}
@@ -87,6 +87,8 @@ module _ (s : List ℕ) where
       holds-andThen (repeat-forward (forestLength f) inside each n next (e .1)) (λ last ts r.
       found (record { many = omega arith; tokens = omega (arith, r .tokens, some .0); inside = r .inside })))
   fields-forward o c (members k) f inside some each at h =
+      forward-least some (each at h)
+  fields-forward o c subtype f inside some each at h =
       forward-least some (each at h)
 
   mutual

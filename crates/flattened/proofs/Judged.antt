@@ -12,7 +12,7 @@ use lib.Dec.{leb, ltb, eqb}
 use lib.ListN.{length, getD}
 use Rattle.number.specs.Endian.{be, le}
 use Rattle.descriptor.specs.Codes.{booleanCode}
-use Rattle.descriptor.specs.Tree.{Fields, empty, items, pairs, text, dimensions, members}
+use Rattle.descriptor.specs.Tree.{Fields, empty, items, pairs, text, dimensions, members, subtype}
 use Rattle.descriptor.specs.Outcome.{Outcome, read}
 use Rattle.descriptor.specs.Width.{widthOf}
 use Rattle.flattened.specs.Order.{Order, big, little, numberAt}
@@ -66,6 +66,7 @@ module _ (o : Order) (c : ℕ) (s : List ℕ) (at : ℕ) where
   scalar-ruled text inside e = cc
   scalar-ruled (dimensions k) inside e = cc
   scalar-ruled (members k) inside e = cc
+  scalar-ruled subtype inside e = cc
 
   -- where it is cut, where it is refused, and where it is read
   pub ruled-cut : (r : Rule) → length s < at + widthOf c → ruledAt r ≡ Outcome.refused 21 at

@@ -5,10 +5,11 @@ use mathlib.Core.List.{List}
 use Prim.Native.Nat.{ℕ, _-_, _≤_}
 use native.Mathlib.Omega.{arith}
 use Rattle.descriptor.specs.Limits.{dimensionLimit}
-use Rattle.descriptor.specs.Codes.{string, array, cluster, kindOf}
+use Rattle.descriptor.specs.Codes.{string, array, kindOf}
 use Rattle.descriptor.specs.Header.{codeIn}
-use Rattle.descriptor.specs.Tree.{Fields, empty, items, pairs, text, dimensions, members, Tree, Forest, nil, cons, countOf, childCount}
+use Rattle.descriptor.specs.Tree.{Fields, empty, items, pairs, text, dimensions, members, subtype, Tree, Forest, nil, cons, countOf, childCount}
 use Rattle.descriptor.specs.Outcome.{Outcome}
+use Rattle.descriptor.specs.inner.Steps.{isCompound}
 use Rattle.descriptor.specs.inner.Standing.{forestOf, insideOf, Stands}
 use Rattle.descriptor.specs.declared.inside.Inside.{Inside}
 use Rattle.descriptor.proofs.Standing.{row-none}
@@ -17,8 +18,8 @@ use Rattle.flattened.specs.Token.{Token}
 use Rattle.flattened.specs.Walk.{textAt, repeat, walk, walkAll}
 use Rattle.flattened.specs.inner.Types.{typeAt, typesAt, TypeStands, RowStands, fieldsKind}
 use Rattle.flattened.specs.inner.Arrays.{elementsAt}
-use Rattle.flattened.proofs.Arms.{walk-text, walk-array, walk-cluster, walk-one}
-use Rattle.flattened.proofs.Cases.{it, hasInside, counted-inside, types-inside, row-inside}
+use Rattle.flattened.proofs.Arms.{walk-text, walk-array, walk-compound, walk-one}
+use Rattle.flattened.proofs.Cases.{it, hasInside, compound-inside, counted-inside, types-inside, row-inside}
 use Rattle.flattened.proofs.Types.{Counted, row-turn, alone}
 
 -- the walk by kinds
@@ -30,12 +31,11 @@ module _ (d : List ℕ) (p : ℕ) (here : Stands d p) (o : Order) (s : List ℕ)
   value-text k = walk-made ∙ walk-text _ _ _ _ o s at (it d p here .kind ∙ sym k)
 
   module _ (i : Inside) (read : i ≡ insideOf d p) where
-    pub value-cluster : cluster ≡ kindOf (codeIn d p) → walk o (typeAt d p) s at ≡ walkAll o (typesAt d (i .children) (i .at)) s at
-    unfolding hasInside
-    value-cluster k =
+    pub value-compound : isCompound (kindOf (codeIn d p)) ≡ true → walk o (typeAt d p) s at ≡ walkAll o (typesAt d (i .children) (i .at)) s at
+    value-compound k =
         walk-made
-        ∙ walk-cluster _ _ _ _ o s at (it d p here .kind ∙ sym k)
-        ∙ ap (λ (f : Forest). walkAll o f s at) (sym (types-inside d p here i read (sym (ap hasInside k))))
+        ∙ walk-compound _ _ _ _ o s at (ap isCompound (it d p here .kind) ∙ k)
+        ∙ ap (λ (f : Forest). walkAll o f s at) (sym (types-inside d p here i read (compound-inside _ k)))
 
 -- of a row of one, the type
 only : (d : List ℕ) (p left : ℕ) → RowStands d 1 p left → TypeStands d p left × (typesAt d 1 p ≡ cons (typeAt d p) nil)
@@ -53,6 +53,7 @@ array-counts (pairs ps) e c = absurd (let z : _≡_ {A = ℕ} 0 1 = cc in omega 
 array-counts text e c = absurd (let z : _≡_ {A = ℕ} 0 1 = cc in omega arith)
 array-counts (dimensions k) e c = (refl, c .0, c .1)
 array-counts (members k) e c = absurd (let z : _≡_ {A = ℕ} 0 1 = cc in omega arith)
+array-counts subtype e c = absurd (let z : _≡_ {A = ℕ} 0 1 = cc in omega arith)
 
 -- what the code knows of an array at p
 pub record ArrayAt (d : List ℕ) (p left : ℕ) (i : Inside) : Type 0 where
@@ -91,9 +92,9 @@ module _ (d : List ℕ) (p left : ℕ) (type : TypeStands d p left) (o : Order) 
   pub walk-texts : string ≡ kindOf (codeIn d p) → repeat (λ a. textAt o s a) n from ≡ values
   walk-texts k i = repeat (λ a. sym (value-text d p (type .here) o s a k) i) n from
 
-  pub walk-clusters : (i : Inside) → i ≡ insideOf d p → cluster ≡ kindOf (codeIn d p)
+  pub walk-compounds : (i : Inside) → i ≡ insideOf d p → isCompound (kindOf (codeIn d p)) ≡ true
       → repeat (λ a. walkAll o (typesAt d (i .children) (i .at)) s a) n from ≡ values
-  walk-clusters x read k i = repeat (λ a. sym (value-cluster d p (type .here) o s a x read k) i) n from
+  walk-compounds x read k i = repeat (λ a. sym (value-compound d p (type .here) o s a x read k) i) n from
 
   pub walk-alone : repeat (λ a. walkAll o (typesAt d 1 p) s a) n from ≡ values
   walk-alone =

@@ -11,7 +11,7 @@ use lib.ListN.{length, getD}
 use Rattle.descriptor.specs.Limits.{dataLimit, lengthLimit}
 use Rattle.descriptor.specs.Codes.{booleanCode}
 use Rattle.descriptor.specs.Width.{widthOf}
-use Rattle.descriptor.specs.Tree.{Fields, empty, items, pairs, text, dimensions, members, Tree, node, Forest, nil, cons}
+use Rattle.descriptor.specs.Tree.{Fields, empty, items, pairs, text, dimensions, members, subtype, Tree, node, Forest, nil, cons}
 use Rattle.descriptor.specs.Outcome.{Outcome, refused, read, andThen, require}
 use Rattle.flattened.specs.Order.{Order, numberAt}
 use Rattle.flattened.specs.Token.{Token}
@@ -68,6 +68,7 @@ module _ (s : List ℕ) where
       kept-require (sizesFit (sizesAt o s k p)) 22 p (omega arith) l (λ _. reading (leb-true _ _ room))))
       (λ q n m. kept-andThen (repeat-kept inside h n q m) (λ r ts e. reading e))
   fields-kept o c (members k) inside h p l = h p l
+  fields-kept o c subtype inside h p l = h p l
 
   mutual
     unfolding walk

@@ -5,12 +5,14 @@ use mathlib.Core.Bool.{true}
 use mathlib.Core.List.{List}
 use Prim.Native.Nat.{ℕ, zero, suc, _+_, _-_, _<_, _≤_}
 use native.Mathlib.Omega.{arith}
-use lib.Dec.{leb}
+use lib.Dec.{leb, eqb}
 use lib.ListN.{length}
 use Rattle.descriptor.specs.Limits.{dimensionLimit, pairLimit, countLimit}
-use Rattle.descriptor.specs.Codes.{Kind, plain, enumeration, quantity, string, array, cluster, unknown, kindOf}
+use Rattle.descriptor.specs.Codes.{Kind, plain, enumeration, quantity, string, array, cluster, stamp, unknown, kindOf}
 use Rattle.descriptor.specs.Header.{bodyAt, sizeIn, codeIn}
-use Rattle.descriptor.specs.Tree.{Name, Fields, empty, items, pairs, text, dimensions, members, Tree, node, Forest, nil, cons, countOf, childCount, insideAt, treeSize, forestLength, height, forestHeight}
+use Rattle.descriptor.specs.Tree.{Name, Fields, empty, items, pairs, text, dimensions, members, subtype, Tree, node, Forest, nil, cons, countOf, childCount, insideAt, treeSize, forestLength, height, forestHeight}
+use Rattle.number.specs.Endian.{be}
+use Rattle.descriptor.specs.Stamp.{stampSubtype}
 use Rattle.descriptor.specs.Outcome.{Outcome, refused, read, andThen}
 use Rattle.descriptor.specs.Check.{countAt, runAt, itemsAt, fieldsRead, contentsAt, filledAt, fieldsAt, membersAt}
 use Rattle.descriptor.specs.inner.Standing.{standing, standingRow, isRead, nextOf, forestOf, fieldsOf, contentsStart, insideOf, Stands}
@@ -30,6 +32,7 @@ Counted (pairs ps) = Unit {0}
 Counted text = Unit {0}
 Counted (dimensions k) = (1 ≤ k) × (k ≤ dimensionLimit)
 Counted (members k) = 1 ≤ k
+Counted subtype = Unit {0}
 
 read-kind : (k : Kind) (s : List ℕ) (p at stop : ℕ) → Holds (λ q b. (fieldsKind b ≡ k) × Counted b) (fieldsRead k s p at stop)
 unfolding fieldsRead fieldsKind Counted
@@ -40,6 +43,7 @@ read-kind quantity s p at stop = holds-andThen (holds-self (runAt s p at stop pa
 read-kind string s p at stop = holds-require (leb (at + 4) stop) _ _ (λ _. found (refl, tt))
 read-kind array s p at stop = holds-andThen (run-fits s p at stop dimensionLimit) (λ _ k fits. found (refl, (fits .least, fits .limit)))
 read-kind cluster s p at stop = holds-andThen (count-fits s p at stop countLimit) (λ _ k fits. found (refl, fits .least))
+read-kind stamp s p at stop = holds-require (leb (at + 2) stop) _ _ (λ _. holds-require (eqb (be s at 2) stampSubtype) _ _ (λ _. found (refl, tt)))
 read-kind unknown s p at stop = nothing
 
 fields-kind : (k : Kind) (s : List ℕ) (p at stop : ℕ) → Holds (λ q b. (fieldsKind b ≡ k) × Counted b) (fieldsAt k s p at stop)
@@ -57,6 +61,7 @@ fields-solid c (pairs ps) f e counted many = some-width c (sym (ap isMeasured e)
 fields-solid c text f e counted many = tt
 fields-solid c (dimensions k) f e counted many = (counted .0, omega arith)
 fields-solid c (members k) f e counted many = omega arith
+fields-solid c subtype f e counted many = omega arith
 
 module _ (d : List ℕ) where
   -- a type that stands somewhere

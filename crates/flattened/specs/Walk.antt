@@ -5,7 +5,7 @@ use mathlib.Core.List.{List, [], _∷_, _++_}
 use Prim.Native.Nat.{ℕ, zero, suc, _+_, _*_}
 use lib.ListN.{length, getD}
 use lib.Dec.{leb, ltb, eqb}
-use Rattle.descriptor.specs.Tree.{Fields, empty, items, pairs, text, dimensions, members, Tree, node, Forest, nil, cons}
+use Rattle.descriptor.specs.Tree.{Fields, empty, items, pairs, text, dimensions, members, subtype, Tree, node, Forest, nil, cons}
 use Rattle.descriptor.specs.Limits.{dataLimit, lengthLimit}
 use Rattle.descriptor.specs.Codes.{booleanCode}
 use Rattle.descriptor.specs.Outcome.{Outcome, refused, read, andThen, require}
@@ -80,6 +80,8 @@ walkFields o c text inside s at = textAt o s at
 walkFields o c (dimensions k) inside s at =
     andThen (arrayAt o s k at) (λ next n. andThen (repeat inside n next) (λ last ts. read last (token (sizes k) at next ∷ ts)))
 walkFields o c (members k) inside s at = inside at
+-- document 02, CR 1: "its data is that cluster's data"
+walkFields o c subtype inside s at = inside at
 
 unfoldable mutual
   -- the tokens of the type t at `at`

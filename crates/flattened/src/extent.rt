@@ -1,6 +1,7 @@
 // What a type takes in data where that is the same for every value of it, or but for one string; and how the numbers of a scalar are judged.
 use descriptor::codes::BOOLEAN;
 use descriptor::codes::Kind;
+use descriptor::codes::is_compound;
 use descriptor::codes::kind_of;
 use descriptor::header::code_at;
 use descriptor::header::size_at;
@@ -114,7 +115,7 @@ pub fn extent_of(d: &[u8], p: usize, left: usize) -> Extent
     if let Kind::Text = k {
         return Extent::Around(0, 0, 1, false);
     }
-    if let Kind::Cluster = k {
+    if is_compound(code) {
         let inside = inside_of(d, p);
         return extent_row(d, inside.at, inside.children, left - 1);
     }

@@ -13,6 +13,7 @@ ghost use Rattle.access.specs.Path.{located};
 ghost use Rattle.reading.specs.Values.{readValue, valueKind, valueBits};
 ghost use Rattle.byteorder.specs.Reversal.{toLittleEndian, fromLittleEndian};
 ghost use Rattle.resolution.specs.Record.{resolved};
+ghost use Rattle.timestamp.specs.Difference.{difference};
 ghost use Rattle.layout.specs.Numbers.{answerNumbers, tableNumbers, truth};
 
 // `table` gets the 256 rows one after another, each as its seven numbers.
@@ -146,4 +147,39 @@ pub extern "C" fn kc_read_record_into(
 {
     let record = super::kc_read_record(writer, reader, data, out);
     put_answer(record, answer);
+}
+
+// `seconds` and `fraction` get the difference's.
+#[no_mangle]
+pub extern "C" fn kc_stamp_difference_into(
+    first_seconds_high: i32,
+    first_seconds_low: i32,
+    first_fraction_high: u32,
+    first_fraction_low: u32,
+    second_seconds_high: i32,
+    second_seconds_low: i32,
+    second_fraction_high: u32,
+    second_fraction_low: u32,
+    answer: &mut [u32; 3],
+    seconds: &mut i64,
+    fraction: &mut u64,
+)
+    ensures answer { λ _. ⌜ now (answer .exit) ≡ answerNumbers (difference «first_seconds_high» «first_seconds_low» «first_fraction_high» «first_fraction_low» «second_seconds_high» «second_seconds_low» «second_fraction_high» «second_fraction_low» .answer) ⌝ }
+    ensures seconds { λ _. ⌜ now (seconds .exit) ≡ difference «first_seconds_high» «first_seconds_low» «first_fraction_high» «first_fraction_low» «second_seconds_high» «second_seconds_low» «second_fraction_high» «second_fraction_low» .seconds ⌝ }
+    ensures fraction { λ _. ⌜ now (fraction .exit) ≡ difference «first_seconds_high» «first_seconds_low» «first_fraction_high» «first_fraction_low» «second_seconds_high» «second_seconds_low» «second_fraction_high» «second_fraction_low» .fraction ⌝ }
+{
+    let difference = super::kc_stamp_difference(
+        first_seconds_high,
+        first_seconds_low,
+        first_fraction_high,
+        first_fraction_low,
+        second_seconds_high,
+        second_seconds_low,
+        second_fraction_high,
+        second_fraction_low,
+    );
+    put_answer(difference.answer, answer);
+    let whole = difference.seconds;
+    *seconds = whole;
+    *fraction = difference.fraction;
 }

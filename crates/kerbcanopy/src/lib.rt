@@ -8,6 +8,7 @@ use descriptor::answer::Answer;
 use descriptor::answer::Checked;
 use reading::value::value_bits;
 use reading::value::value_kind;
+use timestamp::Difference;
 ghost use mathlib.Core.Path.{_≡_};
 ghost use Rattle.descriptor.specs.Answers.{descriptorCheck, withTable};
 ghost use Rattle.canonical.specs.Equality.{comparison};
@@ -17,6 +18,7 @@ ghost use Rattle.access.specs.Path.{located};
 ghost use Rattle.reading.specs.Values.{readValue, valueKind, valueBits};
 ghost use Rattle.byteorder.specs.Reversal.{toLittleEndian, fromLittleEndian};
 ghost use Rattle.resolution.specs.Record.{resolved};
+ghost use Rattle.timestamp.specs.Difference.{difference};
 
 // Reads any bytes as a descriptor. Accepted: number 0, input 0, the place is the row count, and the table has a row for each descriptor
 // in order of first byte, zero rows after them. Refused: the number 1 to 12 that comes first in document 01's order, input 1, the place
@@ -136,4 +138,32 @@ pub extern "C" fn kc_read_record(
     ensures wrote { λ _. ⌜ now (out .exit) ≡ resolved (now (writer .entry)) (now (reader .entry)) (now («data» .entry)) (now (out .entry)) .out ⌝ }
 {
     records::reading::read_record(writer, reader, data, out)
+}
+
+// The first time stamp less the second, exactly; each is given as its four integers. Accepted: number 0, input 0, place 0, and seconds and
+// fraction, the fraction from 0 up to one second, in units of 2^-64. Refused: 32 with input 4 and place 0 where 64 signed bits don't hold the
+// seconds; seconds and fraction are then 0.
+#[no_mangle]
+pub extern "C" fn kc_stamp_difference(
+    first_seconds_high: i32,
+    first_seconds_low: i32,
+    first_fraction_high: u32,
+    first_fraction_low: u32,
+    second_seconds_high: i32,
+    second_seconds_low: i32,
+    second_fraction_high: u32,
+    second_fraction_low: u32,
+) -> Difference
+    ensures { λ r. ⌜ r ≡ difference «first_seconds_high» «first_seconds_low» «first_fraction_high» «first_fraction_low» «second_seconds_high» «second_seconds_low» «second_fraction_high» «second_fraction_low» ⌝ }
+{
+    timestamp::stamp_difference(
+        first_seconds_high,
+        first_seconds_low,
+        first_fraction_high,
+        first_fraction_low,
+        second_seconds_high,
+        second_seconds_low,
+        second_fraction_high,
+        second_fraction_low,
+    )
 }

@@ -10,7 +10,7 @@ use lib.ListN.{length}
 use Rattle.descriptor.specs.Limits.{descriptorLimit, dataLimit, depthLimit}
 use Rattle.descriptor.specs.Codes.{cluster, kindOf}
 use Rattle.descriptor.specs.Header.{codeIn}
-use Rattle.descriptor.specs.Tree.{Name, Fields, empty, items, pairs, text, dimensions, members, Tree, node, Forest, nil, cons, childCount, insideAt, forestLength, rowCount, forestRows}
+use Rattle.descriptor.specs.Tree.{Name, Fields, empty, items, pairs, text, dimensions, members, subtype, Tree, node, Forest, nil, cons, childCount, insideAt, forestLength, rowCount, forestRows}
 use Rattle.descriptor.specs.Outcome.{Outcome, refused, read, andThen}
 use Rattle.descriptor.specs.inner.Standing.{standing, standingRow, isRead, fieldsOf, contentsStart, insideOf, Stands}
 use Rattle.descriptor.specs.inner.Steps.{counted, refusedStep, readStep}
@@ -48,6 +48,7 @@ kind-members (pairs ps) e = absurd (let z : _≡_ {A = ℕ} 0 1 = cc in omega ar
 kind-members text e = absurd (let z : _≡_ {A = ℕ} 0 1 = cc in omega arith)
 kind-members (dimensions d) e = absurd (let z : _≡_ {A = ℕ} 0 1 = cc in omega arith)
 kind-members (members k) e = refl
+kind-members subtype e = absurd (let z : _≡_ {A = ℕ} 0 1 = cc in omega arith)
 
 kind-others : (b : Fields) → (cluster ≡ fieldsKind b → ⊥) → isMembers b ≡ false
 unfolding isMembers fieldsKind
@@ -57,6 +58,7 @@ kind-others (pairs ps) h = refl
 kind-others text h = refl
 kind-others (dimensions d) h = refl
 kind-others (members k) h = absurd (h refl)
+kind-others subtype h = refl
 
 -- a cluster's members
 pub record Some (b : Fields) : Type 0 where
@@ -71,6 +73,7 @@ some-members (pairs ps) e = impossible e
 some-members text e = impossible e
 some-members (dimensions d) e = impossible e
 some-members (members k) e = record { count = k; is = refl }
+some-members subtype e = impossible e
 
 -- the reader's members where there are none
 no-readers : (b : Fields) (f : Forest) → isMembers b ≡ false → readerFields b f ≡ refused 40 0
@@ -81,6 +84,7 @@ no-readers (pairs ps) f e = refl
 no-readers text f e = refl
 no-readers (dimensions d) f e = refl
 no-readers (members k) f e = impossible (sym e)
+no-readers subtype f e = refl
 
 -- nor are there the rig's
 no-writers : (b : Fields) (f : Forest) (s : List ℕ) → isMembers b ≡ false → writerFields b f s ≡ refused 41 0
@@ -91,6 +95,7 @@ no-writers (pairs ps) f s e = refl
 no-writers text f s e = refl
 no-writers (dimensions d) f s e = refl
 no-writers (members k) f s e = impossible (sym e)
+no-writers subtype f s e = refl
 
 -- the fields of what was read
 fields-are : (o : Outcome Tree) → isRead o ≡ true → (c : ℕ) (b : Fields) (f : Forest) (m : Name) → typeOf o ≡ node c b f m → fieldsOf o ≡ b

@@ -4,7 +4,7 @@ use mathlib.Core.Bool.{Bool, true, false, not, cond}
 use mathlib.Core.List.{List, [], _∷_, _++_}
 use Prim.Native.Nat.{ℕ, _+_}
 use lib.Seq.{slice}
-use Rattle.descriptor.specs.Tree.{unnamed, named, Fields, empty, items, pairs, text, dimensions, members, Tree, node, Forest, nil, cons, treeSize, insideAt}
+use Rattle.descriptor.specs.Tree.{unnamed, named, Fields, empty, items, pairs, text, dimensions, members, subtype, Tree, node, Forest, nil, cons, treeSize, insideAt}
 use Rattle.descriptor.specs.Table.{rowOf}
 use Rattle.descriptor.specs.Outcome.{Outcome, refused, read, andThen, require, Verdict, denied, granted, judge, settle}
 use Rattle.descriptor.specs.Check.{checked}
@@ -40,6 +40,7 @@ writerFields (pairs ps) f s = refused 41 0
 writerFields text f s = refused 41 0
 writerFields (dimensions d) f s = refused 41 0
 writerFields (members k) f s = membersFrom f (insideAt 0 (members k)) s 0
+writerFields subtype f s = refused 41 0
 
 abbrev pub writerMembers : Tree → List ℕ → Outcome (List Member)
 writerMembers (node c b f m) s = writerFields b f s
@@ -66,6 +67,7 @@ readerFields (pairs ps) f = refused 40 0
 readerFields text f = refused 40 0
 readerFields (dimensions d) f = refused 40 0
 readerFields (members k) f = andThen (readerNames [] 0 f) (λ last _. read last f)
+readerFields subtype f = refused 40 0
 
 abbrev pub readerMembers : Tree → Outcome Forest
 readerMembers (node c b f m) = readerFields b f

@@ -1,7 +1,6 @@
 // The table of an accepted descriptor.
 use descriptor::answer::Row;
-use descriptor::codes::Kind;
-use descriptor::codes::kind_of;
+use descriptor::codes::is_enumeration;
 use descriptor::header::code_at;
 use descriptor::header::size_at;
 use descriptor::inside::Inside;
@@ -10,7 +9,7 @@ use validation::fields::packed_strings;
 ghost use mathlib.Core.Path.{_≡_};
 ghost use Prim.Native.Nat.{_+_, _-_};
 ghost use Rattle.descriptor.specs.Limits.{depthLimit};
-ghost use Rattle.descriptor.specs.Header.{sizeIn};
+ghost use Rattle.descriptor.specs.Header.{sizeIn, codeIn};
 ghost use Rattle.descriptor.specs.Table.{zeroRow};
 ghost use Rattle.descriptor.specs.inner.Standing.{Stands, shapeOf};
 ghost use Rattle.descriptor.specs.inner.Filling.{zeroRows, RowPre, TablePre, rowRead, emptyTable, filled};
@@ -80,23 +79,27 @@ pub fn shape(d: &[u8], p: usize, stop: usize) -> Inside
     ensures { λ r. ⌜ r ≡ shapeOf (now (d .entry)) p ⌝ }
 {
     let b = inside_of(d, p);
-    let k = kind_of(code_at(d, p));
-    match k {
-        Kind::Enumeration => {
-            let w = packed_strings(d, p, stop, b.count, b.at);
-            Inside {
-                at: w.next + (w.next - p) % 2,
-                count: b.count,
-                children: 0,
-            }
-        }
-        Kind::Plain => b,
-        Kind::Quantity => b,
-        Kind::Text => b,
-        Kind::Array => b,
-        Kind::Cluster => b,
-        Kind::Unknown => b,
+    if !is_enumeration(code_at(d, p)) {
+        return b;
     }
+    let w = packed_strings(d, p, stop, b.count, b.at);
+    Inside {
+        at: w.next + (w.next - p) % 2,
+        count: b.count,
+        children: 0,
+    }
+}
+
+// The same where the code is in hand: most have no items, and `inside_of` is enough.
+fn row_shape(d: &[u8], p: usize, stop: usize, code: u8) -> Inside
+    requires { ⌜ Stands (now d) p ⌝ }
+    requires { ⌜ (stop ≡ p + sizeIn (now d) p) × (code ≡ codeIn (now d) p) ⌝ }
+    ensures { λ r. ⌜ r ≡ shapeOf (now (d .entry)) p ⌝ }
+{
+    if is_enumeration(code) {
+        return shape(d, p, stop);
+    }
+    inside_of(d, p)
 }
 
 // A descriptor whose children are being filled: its row's number, what its row says, and how many descriptors stand after it in its row.
@@ -148,7 +151,7 @@ pub fn tabulate(d: &[u8]) -> [Row; 256]
         } else {
             let size = size_at(d, at);
             let code = code_at(d, at);
-            let b = shape(d, at, at + size);
+            let b = row_shape(d, at, at + size, code);
             if 0 < b.children {
                 open[level] = Open {
                     n,

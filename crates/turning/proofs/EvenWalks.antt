@@ -11,7 +11,7 @@ use lib.Dec.{leb, ltb, eqb}
 use lib.ListN.{length, getD}
 use Rattle.descriptor.specs.Codes.{booleanCode}
 use Rattle.descriptor.specs.Outcome.{Outcome, refused, read}
-use Rattle.descriptor.specs.Tree.{empty, items, pairs, text, dimensions, members, Tree, node, Forest, nil, cons}
+use Rattle.descriptor.specs.Tree.{empty, items, pairs, text, dimensions, members, subtype, Tree, node, Forest, nil, cons}
 use Rattle.descriptor.specs.Width.{widthOf}
 use Rattle.descriptor.specs.inner.Standing.{isRead, nextOf}
 use Rattle.descriptor.proofs.Outcomes.{Holds, found, holds-read, holds-require, holds-andThen}
@@ -59,6 +59,7 @@ module _ (s : List ℕ) where
     type-numbered (node c text f m) e o at h = impossible e
     type-numbered (node c (dimensions k) f m) e o at h = impossible e
     type-numbered (node c (members k) f m) e o at h = row-numbered f e o at h
+    type-numbered (node c subtype f m) e o at h = row-numbered f e o at h
 
     row-numbered : (f : Forest) → isFixed (extentAll f) ≡ true → (o : Order) (at : ℕ) → at ≤ length s
         → Holds (λ q ts. Numbered s (numbersAll f) at q ts) (walkAll o f s at)

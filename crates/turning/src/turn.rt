@@ -8,6 +8,7 @@ use byteorder::scalars::turn_scalars;
 use columns::even::even_step;
 use columns::even::turn_even;
 use descriptor::codes::Kind;
+use descriptor::codes::is_compound;
 use descriptor::codes::kind_of;
 use descriptor::header::code_at;
 use descriptor::header::size_at;
@@ -74,7 +75,7 @@ pub fn turn_values(
     if let Kind::Text = k {
         return turn_texts(s, out, n, from, o);
     }
-    if let Kind::Cluster = k {
+    if is_compound(code) {
         let step = even_step(d, p, n, left);
         if step != 0 {
             turn_even(d, p, n, s, out, from, step, left);

@@ -7,16 +7,18 @@ use native.Mathlib.Omega.{arith}
 use borrow.Author.Tests.{le-leb, lt-leb, lt-ltb, le-ltb, eq-eqb, ne-eqb}
 use lib.ListN.{length, getD}
 use Rattle.descriptor.specs.Limits.{countLimit, pairLimit, dimensionLimit}
-use Rattle.descriptor.specs.Codes.{enumeration, quantity, string, array, cluster}
+use Rattle.descriptor.specs.Codes.{enumeration, quantity, string, array, cluster, stamp}
+use Rattle.number.specs.Endian.{be}
+use Rattle.descriptor.specs.Stamp.{stampSubtype}
 use Rattle.descriptor.specs.Outcome.{Outcome, refused, read, andThen}
 use Rattle.descriptor.specs.Tree.{pairs, dimensions, countOf, childCount}
-use Rattle.descriptor.specs.Places.{overrunPlace, contentsPlace}
+use Rattle.descriptor.specs.Places.{codePlace, overrunPlace, contentsPlace}
 use Rattle.descriptor.specs.Check.{countAt, runAt, itemsAt, pairsAt, judged, baseFits, wordFits, fillAt, fieldsAt}
 use Rattle.descriptor.specs.inner.Steps.{counted, fieldsStep, refusedStep, readStep, entryFits, wordsAt}
 use Rattle.descriptor.specs.declared.step.Step.{Step}
 use Rattle.descriptor.proofs.Outcomes.{holds-read}
 use Rattle.descriptor.proofs.Sizes.{CountFits, count-fits, length-pairsAt}
-use Rattle.descriptor.proofs.FieldKinds.{cluster-fields, enumeration-fields, string-fields, array-fields, quantity-fields}
+use Rattle.descriptor.proofs.FieldKinds.{cluster-fields, enumeration-fields, string-fields, array-fields, quantity-fields, stamp-fields}
 use Rattle.descriptor.proofs.Steps.{Got, got, lost}
 
 -- a number that is read is the step's value
@@ -100,6 +102,17 @@ module _ (s : List ℕ) (p at stop : ℕ) where
           ≡ counted (λ k. k) (andThen o (λ last k. andThen (judged (entryFits s true) p k (at + 2)) (λ _ _. read last k)))
       words (refused number place) = refl
       words (read last k) = after last k (judged (baseFits s) p k (at + 2))
+
+  -- a time stamp's subtype word is missing, another, or read
+  pub stamp-missing : stop < at + 2 → fieldsStep (fieldsAt stamp s p at stop) ≡ refusedStep 8 (overrunPlace p stop)
+  stamp-missing h = rw (stamp-fields s p at stop) (simp (lt-leb _ _ h))
+
+  pub stamp-other : at + 2 ≤ stop → (be s at 2 ≡ stampSubtype → ⊥) → fieldsStep (fieldsAt stamp s p at stop) ≡ refusedStep 5 (codePlace p)
+  stamp-other h g = rw (stamp-fields s p at stop) (simp (le-leb _ _ h, ne-eqb _ _ g))
+
+  pub stamp-read : at + 2 ≤ stop → be s at 2 ≡ stampSubtype → fieldsStep (fieldsAt stamp s p at stop) ≡ readStep (at + 2) 0 1
+  unfolding countOf childCount
+  stamp-read h g = rw (stamp-fields s p at stop) (simp (le-leb _ _ h, eq-eqb _ _ g))
 
   -- a string's length word is missing, wrong, or read
   pub text-missing : stop < at + 4 → fieldsStep (fieldsAt string s p at stop) ≡ refusedStep 8 (overrunPlace p stop)

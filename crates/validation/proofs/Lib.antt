@@ -1,3 +1,4 @@
 pub mod FieldSteps
 pub mod Members
 pub mod Names
+pub mod Rests

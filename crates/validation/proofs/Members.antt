@@ -1,7 +1,7 @@
 -- Descriptors in a row as a step, one by one: what each descriptor comes to by its header, its fields, its children and its name, and
 -- what is left to read after it. Rests on the definitions of the check and on `Sizes`.
 use mathlib.Core.Path.{_≡_, refl, ap, sym, _∙_}
-use mathlib.Core.Bool.{Bool, true, false}
+use mathlib.Core.Bool.{Bool, true, false, not, _||_}
 use mathlib.Core.List.{List}
 use Prim.Native.Nat.{ℕ, zero, suc, _+_, _-_, _<_, _≤_}
 use native.Mathlib.Nat.{sub-zero}
@@ -10,18 +10,20 @@ use native.Mathlib.Omega.{arith}
 use borrow.Author.Tests.{eq-eqb, le-leb}
 use lib.ListN.{length}
 use Rattle.descriptor.specs.Limits.{descriptorLimit, depthLimit}
-use Rattle.descriptor.specs.Codes.{kindOf, isArray}
-use Rattle.descriptor.specs.Outcome.{Outcome, refused, read, andThen}
+use Rattle.descriptor.specs.Codes.{Kind, kindOf, isArray, isStamp}
+use Rattle.descriptor.specs.Outcome.{Outcome, refused, read, andThen, require}
 use Rattle.descriptor.specs.Tree.{Name, Fields, Tree, node, Forest, nil, cons, childCount, rowCount, forestRows}
+use Rattle.descriptor.specs.Stamp.{insideFits}
 use Rattle.descriptor.specs.Check.{Header, headerAt, fieldsAt, membersAt, nameAt, nodeAt, treeAt, checked}
 use Rattle.descriptor.specs.inner.Steps.{counted, refusedStep, readStep, headOf}
 use Rattle.descriptor.specs.inner.Promises.{rowStep}
 use Rattle.descriptor.specs.declared.step.Step.{Step}
 use Rattle.descriptor.specs.declared.header.Head.{Head}
-use Rattle.descriptor.proofs.Outcomes.{holds-read}
-use Rattle.descriptor.proofs.Sizes.{members-end, tree-ends}
+use Rattle.descriptor.proofs.Outcomes.{Holds, holds-read, holds-require, holds-weaken}
+use Rattle.descriptor.proofs.Sizes.{members-end, tree-ends, name-ends}
 use Rattle.descriptor.proofs.Runs.{one-less, none-left}
 use Rattle.descriptor.proofs.Steps.{impossible, Got, got}
+use Rattle.validation.specs.inner.Rest.{stampAt, restAt}
 
 -- a head that is ok: the header that was read
 pub record HeadGot (o : Outcome Header) (h : Head) : Type 0 where
@@ -57,6 +59,17 @@ tree-opened zero s a end p n body h l e = absurd (omega arith)
 tree-opened (suc d) s a end p n body h l e =
     rw e (ap (λ (j : ℕ). nodeAt s (λ a stop q m. treeAt j s a stop q m) p n body h) (sym (sub-one (suc d))))
 
+-- a test, and what follows what it lets through
+require-then : {A B : Type 0} (b : Bool) (number place : ℕ) (o : Outcome A) (next : ℕ → A → Outcome B)
+    → andThen (require b number place o) next ≡ require b number place (andThen o next)
+require-then true number place o next = refl
+require-then false number place o next = refl
+
+-- what is left ends where the descriptor does
+pub rest-ends : (k : Kind) (s : List ℕ) (p inside stop at : ℕ) → stop ≤ length s → Holds (λ q m. q ≡ stop) (restAt k s p inside stop at)
+unfolding restAt
+rest-ends k s p inside stop at fit = holds-require (not (isStamp k) || stampAt s inside) 10 p (λ _. holds-weaken (name-ends s p stop fit at) (λ q m e. e .1))
+
 module _ (s : List ℕ) (f : Bool → ℕ → ℕ → ℕ → Outcome Tree) (p n body : ℕ) (h : Header) where
   abbrev stop : ℕ
   stop = p + h .size
@@ -75,15 +88,19 @@ module _ (s : List ℕ) (f : Bool → ℕ → ℕ → ℕ → Outcome Tree) (p n
     unfolding nodeAt
     children-lost at b e c = rw (e, c)
 
-    pub name-lost : (at next : ℕ) (b : Fields) (ts : Forest) → fieldsAt (kindOf (h .code)) s p body stop ≡ read at b → childrenFrom b at ≡ read next ts
-        → nameAt s p stop next ≡ refused number place → nodeAt s f p n body h ≡ refused number place
-    unfolding nodeAt
-    name-lost at next b ts e c m = rw (e, c, m)
+  -- what is left after the children, where the two tests of what stands inside agree
+  module _ (at next : ℕ) (b : Fields) (ts : Forest) (e : fieldsAt (kindOf (h .code)) s p body stop ≡ read at b) (c : childrenFrom b at ≡ read next ts)
+      (fits : insideFits (kindOf (h .code)) ts ≡ (not (isStamp (kindOf (h .code))) || stampAt s at)) where
+    node-rest : nodeAt s f p n body h ≡ andThen (restAt (kindOf (h .code)) s p at stop next) (λ last m. read last (node (h .code) b ts m))
+    unfolding nodeAt restAt
+    node-rest =
+        rw (e, c, fits) (sym (require-then (not (isStamp (kindOf (h .code))) || stampAt s at) 10 p (nameAt s p stop next) (λ last m. read last (node (h .code) b ts m))))
 
-  pub node-read : (at next last : ℕ) (b : Fields) (ts : Forest) (m : Name) → fieldsAt (kindOf (h .code)) s p body stop ≡ read at b
-      → childrenFrom b at ≡ read next ts → nameAt s p stop next ≡ read last m → nodeAt s f p n body h ≡ read last (node (h .code) b ts m)
-  unfolding nodeAt
-  node-read at next last b ts m e c d = rw (e, c, d)
+    pub rest-lost : (number place : ℕ) → restAt (kindOf (h .code)) s p at stop next ≡ refused number place → nodeAt s f p n body h ≡ refused number place
+    rest-lost number place d = node-rest ∙ ap (λ (o : Outcome Name). andThen o (λ last m. read last (node (h .code) b ts m))) d
+
+    pub node-read : (last : ℕ) (m : Name) → restAt (kindOf (h .code)) s p at stop next ≡ read last m → nodeAt s f p n body h ≡ read last (node (h .code) b ts m)
+    node-read last m d = node-rest ∙ ap (λ (o : Outcome Name). andThen o (λ last m. read last (node (h .code) b ts m))) d
 
 -- ---- descriptors in a row
 

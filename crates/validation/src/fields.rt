@@ -1,6 +1,8 @@
 // The fields of a body: the one reader and judge of counts, items, pairs and fixed words.
 use descriptor::codes::FIXED_WORD;
 use descriptor::codes::Kind;
+use descriptor::codes::STAMP_PARTS;
+use descriptor::codes::STAMP_SUBTYPE;
 use descriptor::codes::kind_of;
 use descriptor::limits::BASE_LIMIT;
 use descriptor::limits::COUNT_LIMIT;
@@ -10,8 +12,8 @@ use descriptor::step::Step;
 use descriptor::step::accept;
 use descriptor::step::bad_contents;
 use descriptor::step::bad_count;
+use descriptor::step::not_carried;
 use descriptor::step::overrun;
-use descriptor::step::refuse;
 use number::endian::be16;
 use number::endian::be32;
 use number::endian::wide;
@@ -19,7 +21,7 @@ ghost use mathlib.Core.Path.{_≡_};
 ghost use Prim.Native.Nat.{_*_, _≤_};
 ghost use lib.ListN.{length};
 ghost use Rattle.descriptor.specs.Limits.{countLimit};
-ghost use Rattle.descriptor.specs.Codes.{kindOf, enumeration, string, array, cluster};
+ghost use Rattle.descriptor.specs.Codes.{kindOf, enumeration, string, array, cluster, stamp};
 ghost use Rattle.descriptor.specs.Check.{countAt, runAt, itemsAt, judged, fieldsAt};
 ghost use Rattle.descriptor.specs.inner.Steps.{counted, fieldsStep, entryFits, wordsAt};
 ghost use Rattle.descriptor.specs.inner.Promises.{Within, Run};
@@ -191,6 +193,20 @@ fn cluster_fields(d: &[u8], p: usize, at: usize, stop: usize) -> Step
     accept(c.next, c.value, c.value)
 }
 
+// A time stamp's subtype word; its part follows.
+fn stamp_fields(d: &[u8], p: usize, at: usize, stop: usize) -> Step
+    requires { ⌜ Within (now d) at stop ⌝ }
+    ensures { λ r. ⌜ r ≡ fieldsStep (fieldsAt stamp (now (d .entry)) p at stop) ⌝ }
+{
+    if stop < at + 2 {
+        return overrun(p, stop);
+    }
+    if be16(d, at) != STAMP_SUBTYPE {
+        return not_carried(p);
+    }
+    accept(at + 2, 0, STAMP_PARTS)
+}
+
 // The fields of the descriptor at p, whose body starts at `body` and which ends at `stop`, by its code; the value is their count.
 pub fn fields(d: &[u8], code: u8, p: usize, body: usize, stop: usize) -> Step
     requires { ⌜ Within (now d) body stop ⌝ }
@@ -205,7 +221,8 @@ pub fn fields(d: &[u8], code: u8, p: usize, body: usize, stop: usize) -> Step
         Kind::Text => text_fields(d, p, body, stop),
         Kind::Array => array_fields(d, p, body, stop),
         Kind::Cluster => cluster_fields(d, p, body, stop),
+        Kind::Stamp => stamp_fields(d, p, body, stop),
         // A code that is not carried is refused by its header.
-        Kind::Unknown => refuse(5, p),
+        Kind::Unknown => not_carried(p),
     }
 }

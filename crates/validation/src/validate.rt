@@ -1,6 +1,6 @@
 // The check of any bytes as a descriptor, with no table.
 use super::fields::fields;
-use super::name::name;
+use super::rest::rest;
 use descriptor::codes::is_array;
 use descriptor::header::header;
 use descriptor::limits::DEPTH_LIMIT;
@@ -9,7 +9,8 @@ use descriptor::step::Step;
 use descriptor::step::accept;
 use descriptor::step::refuse;
 ghost use mathlib.Core.Path.{_≡_};
-ghost use Prim.Native.Nat.{_+_};
+ghost use Prim.Native.Nat.{_+_, _≤_};
+ghost use Rattle.descriptor.specs.Limits.{depthLimit};
 ghost use Rattle.descriptor.specs.Tree.{rowCount};
 ghost use Rattle.descriptor.specs.Check.{checked};
 ghost use Rattle.descriptor.specs.inner.Steps.{counted};
@@ -27,6 +28,7 @@ fn validate_row(
     n: usize,
 ) -> Step
     requires { ⌜ Within (now d) start end ⌝ }
+    requires { ⌜ levels ≤ depthLimit ⌝ }
     ensures { λ r. ⌜ r ≡ rowStep (now (d .entry)) levels in_array end k start n ⌝ }
 {
     let mut p = start;
@@ -52,7 +54,7 @@ fn validate_row(
             at = w.next;
             rows = w.value;
         }
-        let m = name(d, p, stop, at);
+        let m = rest(d, h.code, p, b.next, stop, at);
         if !m.ok {
             return m;
         }

@@ -8,7 +8,7 @@ use Rattle.descriptor.specs.Tree.{Tree, Forest, nil, cons}
 use Rattle.descriptor.specs.Encoding.{Bytes}
 use Rattle.encoding.proofs.Slices.{bytes-append, bytes-beBytes}
 use Rattle.flattened.specs.Order.{Order, big, little}
-use Rattle.values.specs.Value.{Value, Values, Fits, plain, enumeration, quantity, string, array, cluster, AllFit, without, element, EachFits, done, member, ordered, inOrder, flatten, flattenElements, flattenMembers}
+use Rattle.values.specs.Value.{Value, Values, Fits, plain, enumeration, quantity, string, array, cluster, stamp, AllFit, without, element, EachFits, done, member, ordered, inOrder, flatten, flattenElements, flattenMembers}
 use Rattle.byteorder.specs.Reversal.{numberWidth}
 
 -- a number's, least significant byte first
@@ -42,6 +42,7 @@ module _ (o : Order) where
     value-bytes (array {e = t} {ns = ns} {vs = vs} l b n h) =
         bytes-append (inOrder o 4 ns) (flattenElements o (cons t nil) vs) (bytes-inOrder o 4 ns) (elements-bytes h)
     value-bytes (cluster h) = members-bytes h
+    value-bytes (stamp h) = members-bytes h
 
     -- an array's elements'
     elements-bytes : {t : Tree} {vs : Values} → AllFit t vs → Bytes (flattenElements o (cons t nil) vs)

@@ -16,7 +16,7 @@ use Rattle.flattened.specs.Order.{Order, big}
 use Rattle.flattened.specs.Token.{Token, joined, Chain, link}
 use Rattle.flattened.specs.Walk.{walked}
 use Rattle.byteorder.proofs.Chained.{chain-order, chain-append}
-use Rattle.values.specs.Value.{Value, Values, Fits, plain, enumeration, quantity, string, array, cluster, AllFit, without, element, EachFits, member, ordered, inOrder, flatten, flattenElements, flattenMembers}
+use Rattle.values.specs.Value.{Value, Values, Fits, plain, enumeration, quantity, string, array, cluster, stamp, AllFit, without, element, EachFits, member, ordered, inOrder, flatten, flattenElements, flattenMembers}
 use Rattle.values.specs.Pieces.{pieces, piecesAt, elementPieces, memberPieces}
 use Rattle.values.proofs.Codes.{some-width}
 use Rattle.values.proofs.Numbers.{length-ordered, length-inOrder}
@@ -64,6 +64,7 @@ mutual
       (subst (λ (k : ℕ). Chain (p + 4 * length ns) (elementPieces (p + 4 * length ns) (cons t nil) vs) k) end
       (elements-chain h _ (w .inside .0) (p + 4 * length ns)))
   value-chain (cluster h) a w p = members-chain h _ (w .inside) p
+  value-chain (stamp h) a w p = members-chain h _ (w .inside) p
 
   -- an array's elements
   elements-chain : {t : Tree} {vs : Values} → AllFit t vs → (a : Bool) → WellFormed a t → (p : ℕ)

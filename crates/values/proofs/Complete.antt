@@ -18,7 +18,7 @@ use Rattle.flattened.specs.Token.{TokenKind, scalar, string, sizes, Token, toke
 use Rattle.descriptor.specs.Limits.{lengthLimit}
 use Rattle.flattened.specs.Walk.{token, single, scalarAt, plainAt, textAt, sizesAt, sizesFit, product, arrayAt, follow, repeat, walkFields, walk, walkAll}
 use Rattle.byteorder.specs.Reversal.{reverseEach, reverseToken, reversed, numberWidth}
-use Rattle.values.specs.Value.{Value, Values, count, AllBelow, Scalar, Fits, plain, enumeration, quantity, array, cluster, AllFit, without, element, EachFits, done, member, other, ordered, inOrder, flatten, flattenElements, flattenMembers}
+use Rattle.values.specs.Value.{Value, Values, count, AllBelow, Scalar, Fits, plain, enumeration, quantity, array, cluster, stamp, AllFit, without, element, EachFits, done, member, other, ordered, inOrder, flatten, flattenElements, flattenMembers}
 use Rattle.values.specs.Pieces.{piecesAt, elementPieces, memberPieces}
 use Rattle.values.proofs.Places.{Here, here-up-to, here-first, here-second}
 use Rattle.values.proofs.Numbers.{length-ordered, number-read, length-inOrder, numbersAt, numbers-read, first-reversed, inOrder-reversed, below-less}
@@ -192,6 +192,7 @@ module _ (o : Order) (s : List ℕ) where
         (flattenElements (other o) (cons t nil) vs) l b (here-first s p x y e)
         (record { walks = ap (λ (j : ℕ). repeat (λ q. walkAll o (cons t nil) s q) j (p + 4 * length ns)) (sym (n ∙ sizes-product ns)) ∙ w .walks; turns = w .turns }))
     value-walks (cluster h) p e = members-walk h p e
+    value-walks (stamp h) p e = members-walk h p e
 
     -- an array's elements
     elements-walk : {t : Tree} {vs : Values} → AllFit t vs → (p : ℕ) → Here s p (flattenElements o (cons t nil) vs)

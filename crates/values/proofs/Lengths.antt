@@ -6,7 +6,7 @@ use native.Mathlib.Omega.{arith}
 use lib.ListN.{length, length-append}
 use Rattle.descriptor.specs.Tree.{Tree, Forest, nil, cons}
 use Rattle.flattened.specs.Order.{Order}
-use Rattle.values.specs.Value.{Value, Values, Fits, plain, enumeration, quantity, string, array, cluster, AllFit, without, element, EachFits, done, member, ordered, inOrder, flatten, flattenElements, flattenMembers}
+use Rattle.values.specs.Value.{Value, Values, Fits, plain, enumeration, quantity, string, array, cluster, stamp, AllFit, without, element, EachFits, done, member, ordered, inOrder, flatten, flattenElements, flattenMembers}
 use Rattle.byteorder.specs.Reversal.{numberWidth}
 use Rattle.values.proofs.Numbers.{length-ordered, length-inOrder}
 
@@ -33,6 +33,7 @@ module _ (o p : Order) where
         append-length (inOrder o 4 ns) (flattenElements o (cons t nil) vs) (inOrder p 4 ns) (flattenElements p (cons t nil) vs) (numbers-length 4 ns)
         (elements-length h)
     value-length (cluster h) = members-length h
+    value-length (stamp h) = members-length h
 
     -- an array's elements
     elements-length : {t : Tree} {vs : Values} → AllFit t vs → length (flattenElements o (cons t nil) vs) ≡ length (flattenElements p (cons t nil) vs)

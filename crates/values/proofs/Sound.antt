@@ -10,7 +10,7 @@ use lib.Dec.{leb, ltb, eqb}
 use lib.ListN.{length, getD, length-append}
 use lib.Seq.{slice, length-slice}
 use Rattle.descriptor.specs.Codes.{Kind, kindOf, isArray}
-use Rattle.descriptor.specs.Tree.{Name, Fields, empty, items, pairs, text, dimensions, members, Tree, node, Forest, nil, cons, childCount, forestLength}
+use Rattle.descriptor.specs.Tree.{Name, Fields, empty, items, pairs, text, dimensions, members, subtype, Tree, node, Forest, nil, cons, childCount, forestLength}
 use Rattle.descriptor.specs.Encoding.{Bytes, FieldsFit, WellFormed, AllWellFormed}
 use Rattle.descriptor.proofs.Outcomes.{Holds, found, holds-require, holds-andThen, holds-weaken}
 use Rattle.descriptor.proofs.Sizes.{and-true}
@@ -19,7 +19,7 @@ use Rattle.descriptor.specs.Width.{widthOf}
 use Rattle.flattened.specs.Order.{Order, numberAt}
 use Rattle.descriptor.specs.Limits.{lengthLimit}
 use Rattle.flattened.specs.Walk.{plainAt, scalarAt, textAt, sizesAt, sizesFit, product, arrayAt, repeat, walkFields, walk, walkAll}
-use Rattle.values.specs.Value.{Value, numbers, characters, elements, parts, Values, none, also, count, AllBelow, Scalar, Fits, plain, enumeration, quantity, string, array, cluster, AllFit, without, element, EachFits, done, member, ordered, inOrder, flatten, flattenElements, flattenMembers}
+use Rattle.values.specs.Value.{Value, numbers, characters, elements, parts, Values, none, also, count, AllBelow, Scalar, Fits, plain, enumeration, quantity, string, array, cluster, stamp, AllFit, without, element, EachFits, done, member, ordered, inOrder, flatten, flattenElements, flattenMembers}
 use Rattle.byteorder.specs.Reversal.{numberCount, numberWidth}
 use Rattle.values.proofs.Places.{Here, here-by, here-none, here-then}
 use Rattle.values.proofs.Numbers.{length-ordered, number-stands, numbersAt, length-numbersAt, length-inOrder, numbers-stand}
@@ -181,6 +181,8 @@ module _ (o : Order) (s : List ℕ) (b : Bytes s) where
   fields-stand c (dimensions d) f m i k l inside p h = array-stands c d f m l inside p
   fields-stand c (members j) f m i k l inside p h =
       holds-weaken (inside p h) (λ q ts r. record { value = parts (r .values); fits = cluster (r .fits); here = r .here; end = r .end })
+  fields-stand c subtype f m i k l inside p h =
+      holds-weaken (inside p h) (λ q ts r. record { value = parts (r .values); fits = stamp (r .fits); here = r .here; end = r .end })
 
   mutual
     unfolding walk flatten WellFormed

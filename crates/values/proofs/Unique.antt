@@ -7,7 +7,7 @@ use lib.ListN.{length}
 use Rattle.descriptor.specs.Tree.{Tree, Forest, nil, cons}
 use Rattle.encoding.proofs.Slices.{append-apart}
 use Rattle.flattened.specs.Order.{Order}
-use Rattle.values.specs.Value.{Value, numbers, characters, elements, parts, Values, also, count, AllBelow, Scalar, Fits, plain, enumeration, quantity, string, array, cluster, AllFit, without, element, EachFits, done, member, ordered, inOrder, flatten, flattenElements, flattenMembers}
+use Rattle.values.specs.Value.{Value, numbers, characters, elements, parts, Values, also, count, AllBelow, Scalar, Fits, plain, enumeration, quantity, string, array, cluster, stamp, AllFit, without, element, EachFits, done, member, ordered, inOrder, flatten, flattenElements, flattenMembers}
 use Rattle.byteorder.specs.Reversal.{numberWidth}
 use Rattle.values.proofs.Numbers.{length-ordered, ordered-apart, inOrder-apart, below-less}
 use Rattle.values.proofs.Scalars.{scalar-bound}
@@ -52,6 +52,9 @@ module _ (o : Order) where
         let i = elements-apart h k x y (n ∙ ap (foldr _*_ 1) (r .0) ∙ sym j) (r .1) in
         (ap₂ elements (r .0) (i .0), i .1)
     values-apart (cluster h) (cluster k) x y e =
+        let r = members-apart h k x y e in
+        (ap parts (r .0), r .1)
+    values-apart (stamp h) (stamp k) x y e =
         let r = members-apart h k x y e in
         (ap parts (r .0), r .1)
 

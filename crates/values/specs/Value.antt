@@ -6,7 +6,7 @@ use Prim.Native.Nat.{ℕ, suc, _*_, _^_, _<_}
 use lib.Dec.{eqb}
 use lib.ListN.{length}
 use Rattle.number.specs.Endian.{beBytes, leBytes}
-use Rattle.descriptor.specs.Tree.{Name, Pair, empty, items, pairs, text, dimensions, members, Tree, node, Forest, nil, cons}
+use Rattle.descriptor.specs.Tree.{Name, Pair, empty, items, pairs, text, dimensions, members, subtype, Tree, node, Forest, nil, cons}
 use Rattle.descriptor.specs.Limits.{lengthLimit}
 use Rattle.descriptor.specs.Encoding.{Bytes}
 use Rattle.flattened.specs.Order.{Order, big, little}
@@ -21,7 +21,7 @@ mutual
     characters : List ℕ → Value
     -- an array's sizes, one for each dimension, and its elements, "last dimension fastest"
     elements : List ℕ → Values → Value
-    -- a cluster's members
+    -- a cluster's members, or a time stamp's one part
     parts : Values → Value
 
   -- values in a row
@@ -65,6 +65,8 @@ mutual
         → AllFit e vs → Fits (node c (dimensions k) (cons e nil) m) (elements ns vs)
     -- "A cluster is its members in order."
     cluster : {c k : ℕ} {f : Forest} {m : Name} {vs : Values} → EachFits f vs → Fits (node c (members k) f m) (parts vs)
+    -- document 02, CR 1: "Its one part .. is that cluster, and its data is that cluster's data."
+    stamp : {c : ℕ} {f : Forest} {m : Name} {vs : Values} → EachFits f vs → Fits (node c subtype f m) (parts vs)
 
   -- every value in the row is of the one type: an array's elements
   pub data AllFit : Tree → Values → Type 0 where

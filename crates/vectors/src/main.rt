@@ -1,13 +1,14 @@
 // Runs the worked descriptors of document 01 that are not proved, and those of the source documents 002 and 004, through the public
 // entries. A line for each: its name; number, input and place; the rows, as (code start size depth count name_place name_length), the
 // code hexadecimal and the others decimal; and of its normal form, whether it has the same bytes and compares equal. Then data, under a
-// descriptor: its name, number, input and place. Then records in a reader's shape.
+// descriptor: its name, number, input and place. Then records in a reader's shape, and time stamps.
 mod cases;
 mod data;
 mod numbers;
 mod records;
 mod show;
 mod sources;
+mod stamps;
 
 use cases::Cases;
 use cases::show_cases;
@@ -32,4 +33,6 @@ fn main() {
     data::edges();
     records::old_faults();
     records::refusals();
+    stamps::worked();
+    stamps::differences();
 }

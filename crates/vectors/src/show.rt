@@ -18,7 +18,7 @@ fn wide32(x: u32) -> u64 {
     x as u64
 }
 
-fn say_number(x: u64) {
+pub fn say_number(x: u64) {
     say(b" ");
     io::print_decimal(1, x);
 }

@@ -4,6 +4,7 @@ use super::arrays::Front;
 use super::arrays::array_front;
 use super::arrays::scalar_front;
 use descriptor::codes::Kind;
+use descriptor::codes::is_compound;
 use descriptor::codes::kind_of;
 use descriptor::header::code_at;
 use descriptor::header::size_at;
@@ -137,11 +138,12 @@ pub fn walk(d: &[u8], p: usize, n: usize, s: &[u8], from: Cursor, o: Order, left
     requires { ⌜ DataAt (now s) (from .at) ⌝ }
     ensures { λ r. ⌜ r ≡ progress (repeat (λ a. walk (orderOf o) (typeAt (now (d .entry)) p) (now (s .entry)) a) n (from .at)) ⌝ }
 {
-    let k = kind_of(code_at(d, p));
+    let code = code_at(d, p);
+    let k = kind_of(code);
     if let Kind::Text = k {
         return texts(s, n, from, o);
     }
-    if let Kind::Cluster = k {
+    if is_compound(code) {
         let inside = inside_of(d, p);
         return rows(d, inside.at, inside.children, n, s, from, o, left - 1);
     }

@@ -7,6 +7,7 @@ mod growth;
 mod order;
 mod paths;
 mod records;
+mod stamps;
 
 use crate::case::Case;
 
@@ -20,5 +21,6 @@ pub fn rows() -> Vec<Case> {
     rows.extend(order::rows());
     rows.extend(paths::rows());
     rows.extend(records::rows());
+    rows.extend(stamps::rows());
     rows
 }

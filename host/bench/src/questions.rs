@@ -1,4 +1,6 @@
-//! The nine questions, each put to both implementations.
+//! The ten questions, each put to both implementations.
+
+use std::hint::black_box;
 
 use crate::asked::{Asked, Lent, asked};
 
@@ -76,5 +78,31 @@ pub fn read_record(writer: &[u8], reader: &[u8], data: &[u8], room: usize) -> As
         Lent::new(&[writer, reader, data]).with_room(room),
         |lent, _, out| kerbcanopy::read_record(&lent.bytes[0], &lent.bytes[1], &lent.bytes[2], out),
         |lent, _, out| reference::read_record(&lent.bytes[0], &lent.bytes[1], &lent.bytes[2], out),
+    )
+}
+
+/// The difference of two time stamps, each as its four integers.
+pub fn stamp_difference(first: [u32; 4], second: [u32; 4]) -> Asked {
+    asked(
+        Lent::new(&[]),
+        move |_, _, _| {
+            let [first, second] =
+                black_box([first, second]).map(|[a, b, c, d]| kerbcanopy::Stamp {
+                    seconds_high: a as i32,
+                    seconds_low: b as i32,
+                    fraction_high: c,
+                    fraction_low: d,
+                });
+            kerbcanopy::stamp_difference(first, second)
+        },
+        move |_, _, _| {
+            let [first, second] = black_box([first, second]).map(|[a, b, c, d]| reference::Stamp {
+                seconds_high: a as i32,
+                seconds_low: b as i32,
+                fraction_high: c,
+                fraction_low: d,
+            });
+            reference::stamp_difference(first, second)
+        },
     )
 }

@@ -37,6 +37,13 @@ macro_rules! told_by {
             }
         }
 
+        impl Told for $side::Difference {
+            fn told(&self) -> Vec<u64> {
+                let difference = vec![self.seconds as u64, self.fraction];
+                [self.answer.told(), difference].concat()
+            }
+        }
+
         impl Told for $side::Value {
             fn told(&self) -> Vec<u64> {
                 let value = vec![u64::from(self.kind), self.bits];

@@ -24,11 +24,13 @@
 mod data;
 mod descriptor;
 mod refusal;
+mod stamp;
 mod value;
 
 pub use data::Data;
 pub use descriptor::Descriptor;
 pub use refusal::Refusal;
+pub use stamp::{Difference, Stamp};
 pub use value::Value;
 
 /// A row of a descriptor's table.

@@ -16,9 +16,9 @@ pub fn check_data(descriptor: &[u8], data: &[u8]) -> Answer {
     }
 }
 
-/// Finds a part of the data: each step is a member number in a cluster or a flat
-/// element number in an array. Accepted: the place is 0. A step that leads
-/// nowhere is 30 with input 4; a refusal's part is empty at the front.
+/// Finds a part of the data: each step is a member number in a cluster, a flat
+/// element number in an array, or 0 in a time stamp. Accepted: the place is 0. A step
+/// that leads nowhere is 30 with input 4; a refusal's part is empty at the front.
 pub fn view(descriptor: &[u8], data: &[u8], path: &[u32]) -> Part {
     // SAFETY: each pointer and length are those of one live slice.
     unsafe {

@@ -4,7 +4,7 @@
 use std::collections::BTreeMap;
 use std::mem::{align_of, offset_of, size_of};
 
-use crate::raw::{Answer, Checked, Part, RawCompared, Row, Value};
+use crate::raw::{Answer, Checked, Difference, Part, RawCompared, Row, Value};
 
 const FIGURES: &str = include_str!("../../c/layout.def");
 
@@ -69,6 +69,14 @@ fn declared() -> Layout {
     add!(layout, "kc_compared", RawCompared, answer, equal);
     add!(layout, "kc_part", Part, answer, start, length);
     add!(layout, "kc_value", Value, answer, kind, bits);
+    add!(
+        layout,
+        "kc_difference",
+        Difference,
+        answer,
+        seconds,
+        fraction
+    );
     layout
 }
 

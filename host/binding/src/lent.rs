@@ -2,7 +2,7 @@
 //! in `_into`, for callers that can't take a struct by value. Each sets every
 //! number that it is lent, after a refusal too.
 
-use crate::raw;
+use crate::{Stamp, raw};
 
 /// An answer's number, input and place.
 pub type Numbers = [u32; 3];
@@ -172,6 +172,33 @@ pub fn read_record(
             out.as_mut_ptr(),
             out.len(),
             answer,
+        );
+    }
+}
+
+/// The answer and the difference of [`crate::stamp_difference`].
+pub fn stamp_difference(
+    first: Stamp,
+    second: Stamp,
+    answer: &mut Numbers,
+    seconds: &mut i64,
+    fraction: &mut u64,
+) {
+    // SAFETY: any numbers will do, and the borrows of what is written keep each
+    // apart from the rest.
+    unsafe {
+        raw::kc_stamp_difference_into(
+            first.seconds_high,
+            first.seconds_low,
+            first.fraction_high,
+            first.fraction_low,
+            second.seconds_high,
+            second.seconds_low,
+            second.fraction_high,
+            second.fraction_low,
+            answer,
+            seconds,
+            fraction,
         );
     }
 }

@@ -1,5 +1,5 @@
 //! Safe entries over the proved library `libkerbcanopy.a`. Each passes its
-//! slices on and hands the library's answer back unchanged.
+//! slices or numbers on and hands the library's answer back unchanged.
 //!
 //! A program that wants `Result`s and types of its own for what was accepted
 //! starts at [`accepted`].
@@ -15,10 +15,12 @@ mod limits;
 mod meaning;
 mod raw;
 mod record;
+mod stamp;
 
 pub use data::{check_data, from_little_endian, read_value, to_little_endian, view};
 pub use descriptor::{Compared, check_descriptor, compare, normal_form};
 pub use limits::{DATA_LIMIT, DESCRIPTOR_LIMIT};
 pub use meaning::meaning;
-pub use raw::{Answer, Checked, Part, Row, Value};
+pub use raw::{Answer, Checked, Difference, Part, Row, Value};
 pub use record::read_record;
+pub use stamp::{Stamp, stamp_difference};

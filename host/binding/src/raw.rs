@@ -63,6 +63,16 @@ pub struct Value {
     pub bits: u64,
 }
 
+/// What the difference of two time stamps returns: seconds, rounded down, and the
+/// rest in units of 2^-64 second; both are 0 after a refusal.
+#[repr(C)]
+#[derive(Clone, Copy, Debug, PartialEq, Eq)]
+pub struct Difference {
+    pub answer: Answer,
+    pub seconds: i64,
+    pub fraction: u64,
+}
+
 unsafe extern "C" {
     pub(crate) fn kc_check_descriptor(descriptor: *const u8, descriptor_len: usize) -> Checked;
     pub(crate) fn kc_compare(
@@ -125,6 +135,16 @@ unsafe extern "C" {
         out: *mut u8,
         out_len: usize,
     ) -> Answer;
+    pub(crate) fn kc_stamp_difference(
+        first_seconds_high: i32,
+        first_seconds_low: i32,
+        first_fraction_high: u32,
+        first_fraction_low: u32,
+        second_seconds_high: i32,
+        second_seconds_low: i32,
+        second_fraction_high: u32,
+        second_fraction_low: u32,
+    ) -> Difference;
     pub(crate) fn kc_check_descriptor_into(
         descriptor: *const u8,
         descriptor_len: usize,
@@ -203,5 +223,18 @@ unsafe extern "C" {
         out: *mut u8,
         out_len: usize,
         answer: *mut [u32; 3],
+    );
+    pub(crate) fn kc_stamp_difference_into(
+        first_seconds_high: i32,
+        first_seconds_low: i32,
+        first_fraction_high: u32,
+        first_fraction_low: u32,
+        second_seconds_high: i32,
+        second_seconds_low: i32,
+        second_fraction_high: u32,
+        second_fraction_low: u32,
+        answer: *mut [u32; 3],
+        seconds: *mut i64,
+        fraction: *mut u64,
     );
 }

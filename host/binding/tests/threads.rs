@@ -5,19 +5,21 @@ use std::sync::Barrier;
 use std::thread;
 
 use kerbcanopy::{
-    Answer, Checked, Compared, Part, Value, check_data, check_descriptor, compare,
-    from_little_endian, normal_form, read_record, read_value, to_little_endian, view,
+    Answer, Checked, Compared, Difference, Part, Stamp, Value, check_data, check_descriptor,
+    compare, from_little_endian, normal_form, read_record, read_value, stamp_difference,
+    to_little_endian, view,
 };
 
 const THREADS: usize = 8;
 const ROUNDS: usize = 40;
 
-/// A descriptor, another, data under the first, and a path into it.
+/// A descriptor, another, data under the first, a path into it, and two time stamps.
 struct Input {
     first: Vec<u8>,
     second: Vec<u8>,
     data: Vec<u8>,
     path: Vec<u32>,
+    stamps: [Stamp; 2],
 }
 
 /// What every entry gives for an input, with every byte of the outputs.
@@ -28,6 +30,7 @@ struct Given {
     judged: Answer,
     part: Part,
     value: Value,
+    difference: Difference,
     outputs: [(Answer, Vec<u8>); 4],
 }
 
@@ -44,6 +47,7 @@ impl Given {
             judged: check_data(first, data),
             part: view(first, data, &input.path),
             value: read_value(first, data, &input.path),
+            difference: stamp_difference(input.stamps[0], input.stamps[1]),
             outputs: [
                 output(&|out| normal_form(first, out)),
                 output(&|out| to_little_endian(first, data, out)),
@@ -71,6 +75,17 @@ fn named(number: usize) -> Vec<u8> {
     descriptor(0x05, &[&[3], name.as_bytes()].concat())
 }
 
+/// A time stamp that follows from a number, by chance early or late.
+fn stamp(number: usize) -> Stamp {
+    let word = |times: u32| (number as u32 + 1).wrapping_mul(times);
+    Stamp {
+        seconds_high: word(0x6C07_8965).cast_signed(),
+        seconds_low: word(0x9E37_79B9).cast_signed(),
+        fraction_high: word(0x85EB_CA6B),
+        fraction_low: word(0xC2B2_AE35),
+    }
+}
+
 /// Accepted and refused ones, among them the widest and the deepest descriptor.
 fn inputs() -> Vec<Input> {
     let wide: Vec<Vec<u8>> = (0..255).map(named).collect();
@@ -86,6 +101,7 @@ fn inputs() -> Vec<Input> {
         second: second.to_vec(),
         data: data.to_vec(),
         path: path.to_vec(),
+        stamps: [stamp(first.len()), stamp(data.len())],
     };
     let bytes: Vec<u8> = (0..255).collect();
     vec![
@@ -121,6 +137,8 @@ fn many_threads_get_what_one_gets() {
         .filter(|given| given.judged.number == 0)
         .count();
     assert_eq!(accepted, 4);
+    let far = |given: &&Given| given.difference.answer.number == 32;
+    assert!((1..alone.len()).contains(&alone.iter().filter(far).count()));
     let together = Barrier::new(THREADS);
     thread::scope(|scope| {
         for number in 0..THREADS {

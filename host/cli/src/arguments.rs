@@ -155,16 +155,19 @@ impl<'a> Words<'a> {
         if self.options.json && self.options.out.as_deref() == Some(OsStr::new("-")) {
             return Err(format!("{name} can't give --json and -o - in one; {see}"));
         }
-        if let Some(missing) = command.needed().get(operands.len()) {
-            return Err(format!("{name} needs a {missing}; {see}"));
+        let taken = command.taken(operands.len());
+        let hint = command.hint(operands.len());
+        if let Some(missing) = taken.get(operands.len()) {
+            let missing = missing.word();
+            return Err(format!("{name} needs a {missing}{hint}; {see}"));
         }
-        let most = command.files.len();
-        if operands.len() > most && !command.steps {
-            let more = shown(operands[most]);
-            return Err(format!("{name} can't take {more} as well; {see}"));
+        if let (Some(more), false) = (operands.get(taken.len()), command.steps) {
+            let more = shown(more);
+            return Err(format!("{name} can't take {more} as well{hint}; {see}"));
         }
-        let files = &operands[..operands.len().min(most)];
-        if files.iter().filter(|word| **word == "-").count() > 1 {
+        let files = operands.iter().zip(taken);
+        let files = files.filter(|(_, operand)| operand.limit().is_some());
+        if files.filter(|(word, _)| **word == "-").count() > 1 {
             return Err(format!("{name} can read standard input once; {see}"));
         }
         Ok(())
@@ -231,7 +234,7 @@ mod tests {
 
     #[test]
     fn a_wrong_use_is_named() {
-        let cases: [(&[&str], &str); 20] = [
+        let cases: [(&[&str], &str); 23] = [
             (&[], "no command"),
             (&["look", "a"], "there is no command look"),
             (&["\u{1b}"], "there is no command \\x1B"),
@@ -258,6 +261,15 @@ mod tests {
                 "normal can't give --json",
             ),
             (&["compare", "-", "-"], "compare can read standard input"),
+            (&["difference", "a", "b", "0"], "difference needs a PATH"),
+            (
+                &["difference", "a", "b", "0", "c", "d"],
+                "difference needs a PATH",
+            ),
+            (
+                &["difference", "a", "-", "-", "b", "-", "-"],
+                "difference can read standard input",
+            ),
         ];
         for (words, expected) in cases {
             let trouble = read(words).expect_err("it is wrong");

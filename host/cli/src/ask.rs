@@ -5,9 +5,11 @@ mod descriptor;
 mod dump;
 mod explain;
 mod record;
+mod stamp;
 
 pub use data::{big, data, little, value, view};
 pub use descriptor::{check, compare, normal};
 pub use dump::dump;
 pub use explain::explain;
 pub use record::read;
+pub use stamp::difference;

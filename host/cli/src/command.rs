@@ -1,6 +1,8 @@
 //! The commands: what each takes, and what it runs.
 
 use std::ffi::{OsStr, OsString};
+use std::ops::Range;
+use std::path::Path;
 
 use crate::arguments::{Arguments, Options};
 use crate::ask;
@@ -8,42 +10,46 @@ use crate::help;
 use crate::input::Input;
 use crate::outcome::Outcome;
 
-/// What an operand is; it says how much of a file an answer needs.
+/// What an operand is; of a file it says how much an answer needs.
 #[derive(Clone, Copy, Debug, PartialEq, Eq)]
-pub enum File {
+pub enum Operand {
     Descriptor(&'static str),
     Data(&'static str),
+    /// All the steps of a path in one word.
+    Path,
 }
 
 #[derive(Debug)]
 pub struct Command {
     pub name: &'static str,
-    pub files: &'static [File],
-    /// How many of the files may be left out.
-    pub optional: usize,
-    /// Whether steps follow the files.
+    pub operands: &'static [Operand],
+    /// The operands that may be left out, all of them or none.
+    pub optional: Range<usize>,
+    /// Whether steps follow the operands.
     pub steps: bool,
     /// The options beside `--hex` and `--json`, which every command takes.
     pub options: &'static [&'static str],
     run: fn(&Request) -> Result<Outcome, String>,
 }
 
-/// What is asked: the files' contents, the steps and the options.
+/// What is asked: the files' contents, the steps or paths, and the options.
 pub struct Request<'a> {
     pub files: Vec<Input>,
     pub steps: &'a [OsString],
     pub options: &'a Options,
 }
 
-const DESCRIPTOR: File = File::Descriptor("DESCRIPTOR");
-const DATA: File = File::Data("DATA");
+const DESCRIPTOR: Operand = Operand::Descriptor("DESCRIPTOR");
+const DATA: Operand = Operand::Data("DATA");
 const OUTPUT: &[&str] = &["-o", "--room"];
+/// What helps where a path's steps were given apart.
+const ONE_WORD: &str = "; a path of several steps is one word in quotes";
 
-pub const COMMANDS: [Command; 11] = [
+pub const COMMANDS: [Command; 12] = [
     command("check", &[DESCRIPTOR], &["--table", "--all"], ask::check),
     command(
         "compare",
-        &[File::Descriptor("FIRST"), File::Descriptor("SECOND")],
+        &[Operand::Descriptor("FIRST"), Operand::Descriptor("SECOND")],
         &[],
         ask::compare,
     ),
@@ -51,7 +57,7 @@ pub const COMMANDS: [Command; 11] = [
     command("data", &[DESCRIPTOR, DATA], &[], ask::data),
     command("dump", &[DESCRIPTOR, DATA], &["--all"], ask::dump),
     Command {
-        optional: 1,
+        optional: 1..2,
         ..command(
             "explain",
             &[DESCRIPTOR, DATA],
@@ -61,11 +67,31 @@ pub const COMMANDS: [Command; 11] = [
     },
     stepped("value", &[], ask::value),
     stepped("view", &["-o"], ask::view),
+    Command {
+        optional: 3..5,
+        ..command(
+            "difference",
+            &[
+                DESCRIPTOR,
+                DATA,
+                Operand::Path,
+                DESCRIPTOR,
+                DATA,
+                Operand::Path,
+            ],
+            &[],
+            ask::difference,
+        )
+    },
     command("little", &[DESCRIPTOR, DATA], OUTPUT, ask::little),
     command("big", &[DESCRIPTOR, DATA], OUTPUT, ask::big),
     command(
         "read",
-        &[File::Descriptor("WRITER"), File::Descriptor("READER"), DATA],
+        &[
+            Operand::Descriptor("WRITER"),
+            Operand::Descriptor("READER"),
+            DATA,
+        ],
         OUTPUT,
         ask::read,
     ),
@@ -73,14 +99,14 @@ pub const COMMANDS: [Command; 11] = [
 
 const fn command(
     name: &'static str,
-    files: &'static [File],
+    operands: &'static [Operand],
     options: &'static [&'static str],
     run: fn(&Request) -> Result<Outcome, String>,
 ) -> Command {
     Command {
         name,
-        files,
-        optional: 0,
+        operands,
+        optional: 0..0,
         steps: false,
         options,
         run,
@@ -98,29 +124,44 @@ const fn stepped(
     }
 }
 
-impl File {
+impl Operand {
     pub fn word(self) -> &'static str {
         match self {
-            File::Descriptor(word) | File::Data(word) => word,
+            Operand::Descriptor(word) | Operand::Data(word) => word,
+            Operand::Path => "PATH",
         }
     }
 
-    fn limit(self) -> usize {
+    /// How many bytes of a file an answer needs; none where this is no file.
+    pub fn limit(self) -> Option<usize> {
         match self {
-            File::Descriptor(_) => kerbcanopy::DESCRIPTOR_LIMIT,
-            File::Data(_) => kerbcanopy::DATA_LIMIT,
+            Operand::Descriptor(_) => Some(kerbcanopy::DESCRIPTOR_LIMIT),
+            Operand::Data(_) => Some(kerbcanopy::DATA_LIMIT),
+            Operand::Path => None,
         }
     }
 }
 
 impl Command {
-    /// The words of the files that can't be left out.
-    pub fn needed(&self) -> Vec<&'static str> {
-        let needed = self.files.len() - self.optional;
-        self.files[..needed]
-            .iter()
-            .map(|file| file.word())
-            .collect()
+    /// What so many words are, as far as they are there: those that can't be left
+    /// out come first of all.
+    pub fn taken(&self, count: usize) -> Vec<Operand> {
+        let (before, rest) = self.operands.split_at(self.optional.start);
+        let needed = [before, &rest[self.optional.len()..]].concat();
+        match count <= needed.len() {
+            true => needed,
+            false => self.operands.to_vec(),
+        }
+    }
+
+    /// What to say beside the trouble with so many words: among more than are needed
+    /// there may be steps of a path.
+    pub fn hint(&self, count: usize) -> &'static str {
+        let more = count > self.operands.len() - self.optional.len();
+        match more && self.operands.contains(&Operand::Path) {
+            true => ONE_WORD,
+            false => "",
+        }
     }
 }
 
@@ -136,12 +177,31 @@ pub fn run(arguments: &Arguments) -> Result<Outcome, String> {
         Arguments::Version => return Ok(Outcome::accepted(help::version())),
         Arguments::Run(command, operands, options) => (command, operands, options),
     };
-    let (files, steps) = operands.split_at(operands.len().min(command.files.len()));
-    let read = files.iter().zip(command.files);
-    let read = read.map(|(word, file)| Input::read(word, options.hex, file.limit()));
+    let taken = command.taken(operands.len());
+    let (words, steps) = operands.split_at(operands.len().min(taken.len()));
+    let mut files = Vec::new();
+    let mut paths = Vec::new();
+    let mut behind_path = false;
+    for (word, operand) in words.iter().zip(taken) {
+        match operand.limit() {
+            Some(limit) => {
+                let read = Input::read(word, options.hex, limit);
+                files.push(read.map_err(|trouble| {
+                    // It may be another step of the path.
+                    match behind_path && !Path::new(word).exists() {
+                        true => trouble + command.hint(operands.len()),
+                        false => trouble,
+                    }
+                })?);
+            }
+            None => paths.push(word.clone()),
+        }
+        behind_path = operand == Operand::Path;
+    }
+    paths.extend_from_slice(steps);
     (command.run)(&Request {
-        files: read.collect::<Result<_, _>>()?,
-        steps,
+        files,
+        steps: &paths,
         options,
     })
 }

@@ -108,12 +108,13 @@ fn steps(types: &Descriptor, path: &[u32]) -> Vec<OsString> {
     for step in path {
         let members = types.inside(row);
         let array = types.rows[row].code == 0x40;
+        let stamp = types.rows[row].code == 0x54;
         row = if array {
             members[0]
         } else {
             members[*step as usize]
         };
-        let name = types.name(row).filter(|_| !array);
+        let name = types.name(row).filter(|_| !array && !stamp);
         let same = members
             .iter()
             .filter(|member| types.name(**member) == name)
@@ -143,11 +144,70 @@ fn agrees(types: &Descriptor, data: &[u8], part: &Json) {
             assert_eq!(read.at(field), part.at(field), "{part:?}");
         }
     } else {
+        if part.at("code").number() == 0x54 {
+            stamp_agrees(&files, &path, part);
+        }
         assert_eq!(
             (read.at("number").number(), part.fields().contains(&"kind")),
             (31, false)
         );
         assert_eq!(numbers(read.at("path")), path);
+    }
+}
+
+/// A dump's stamp against the four values below it, and its difference to itself.
+fn stamp_agrees(files: &[&[u8]], path: &[u32], part: &Json) {
+    let half = |member: u32| {
+        let path = [path, &[0, member]].concat();
+        let read = kerbcanopy::read_value(files[0], files[1], &path);
+        assert_eq!(read.answer.number, 0);
+        read.bits as u32
+    };
+    let joined = |high: u32, low: u32| u64::from(high) << 32 | u64::from(low);
+    let seconds = joined(half(0), half(1)) as i64;
+    assert_eq!(part.at("seconds"), &Json::Number(seconds.to_string()));
+    let fraction = joined(half(2), half(3));
+    assert_eq!(part.at("fraction"), &Json::Number(fraction.to_string()));
+    let time = part.at("time").text();
+    assert!(time.starts_with(&crate::date::since_1904(seconds).to_string()));
+    let steps: Vec<String> = path.iter().map(u32::to_string).collect();
+    let steps: OsString = steps.join(" ").into();
+    let both = [steps.clone(), steps];
+    let (status, zero) = asked(ask::difference, files, &both);
+    assert_eq!((status, zero.at("text").text()), (Status::Accepted, "0"));
+    let (status, zero) = asked(ask::difference, &[files, files].concat(), &both);
+    assert_eq!((status, zero.at("text").text()), (Status::Accepted, "0"));
+}
+
+#[test]
+fn differences_of_stamps_are_exact() {
+    let own = grow::STAMP;
+    for seed in 0..10 * ROUNDS {
+        let mut random = Random::new(seed);
+        // Far apart, near each other, and at the ends of what there is.
+        let mut first = random.stamp();
+        let second = match seed % 3 {
+            0 => random.stamp(),
+            1 => first ^ i128::from(random.next()),
+            _ => {
+                first = i128::MIN + i128::from(random.next());
+                i128::from(random.next()) << 64
+            }
+        };
+        let files = [own, &first.to_be_bytes(), own, &second.to_be_bytes()];
+        let path = OsString::from("-");
+        let (status, json) = asked(ask::difference, &files, &[path.clone(), path]);
+        let number = json.at("number").number();
+        match first.checked_sub(second) {
+            None => assert_eq!((status, number), (Status::Refused, 32)),
+            Some(units) => {
+                assert_eq!((status, number), (Status::Accepted, 0));
+                let fields = [(units >> 64) as i64 as i128, units as u64 as i128];
+                for (name, field) in ["seconds", "fraction"].into_iter().zip(fields) {
+                    assert_eq!(json.at(name), &Json::Number(field.to_string()));
+                }
+            }
+        }
     }
 }
 
@@ -163,7 +223,7 @@ fn dumps_agree_with_views_and_values() {
         let listed = dump.at("parts").list();
         let pieces = listed
             .iter()
-            .filter(|part| part.at("code").number() != 0x50);
+            .filter(|part| !matches!(part.at("code").number(), 0x50 | 0x54));
         assert_eq!(pieces.count(), dump.at("place").number());
         assert_eq!(listed.len(), parts(&types, &data).len());
         // Of a long listing, some.

@@ -83,7 +83,7 @@ impl<'a> Descriptor<'a> {
     /// How many bytes a scalar's data has, asked of the library: zeros are data of
     /// every scalar. None for a type with parts or a string.
     pub fn width(&self, row: usize) -> Option<usize> {
-        if matches!(self.rows[row].code, 0x30 | 0x40 | 0x50) {
+        if matches!(self.rows[row].code, 0x30 | 0x40 | 0x50 | 0x54) {
             return None;
         }
         let accepted = |width: &usize| {

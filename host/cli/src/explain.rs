@@ -3,6 +3,8 @@
 pub mod page;
 pub mod text;
 
+use std::ops::Range;
+
 use kerbcanopy::Answer;
 
 use crate::content::{self, ELEMENTS};
@@ -11,6 +13,7 @@ use crate::facts;
 use crate::input::Input;
 use crate::json::Json;
 use crate::layout::{self, Field, Sort};
+use crate::moment;
 use crate::refusal::{Lent, Refusal, answer_json};
 use crate::tokens::{self, Fault, Found, Order, Part};
 use crate::words::{counted, kind, quoted};
@@ -170,47 +173,61 @@ fn fault_end(types: &Descriptor, row: usize, start: usize, end: usize, answer: A
 
 fn part_fields(types: &Descriptor, data: &[u8], part: &Part, all: bool, fields: &mut Vec<Field>) {
     let start = part.bytes.start;
+    let bytes = &data[part.bytes.clone()];
     let label = label(types, part.row, &part.path);
-    let mut push = |bytes, sort, text| {
-        let depth = part.path.len();
-        fields.push(Field {
-            bytes,
-            depth,
-            sort,
-            text,
-        })
-    };
-    match types.rows[part.row].code {
-        0x50 => push(start..start, Sort::Heading, label),
-        0x40 => {
-            for (dimension, size) in part.sizes.iter().enumerate() {
-                let at = start + 4 * dimension;
-                let text = match dimension {
-                    0 => format!("{label}, size {size}"),
-                    _ => format!("size {size}"),
-                };
-                push(at..at + 4, Sort::Count, text);
-            }
-        }
-        0x30 => {
-            let length = part.bytes.len() - 4;
-            let text = format!("{label}, length {length}");
-            push(start..start + 4, Sort::Size, text);
-            if length > 0 {
-                let characters = start + 4..part.bytes.end;
-                let text = content::characters(&data[characters.clone()], all);
-                push(characters, Sort::Text, text);
-            }
+    let says = match types.rows[part.row].code {
+        0x30 => string(start, bytes, &label, all),
+        0x40 => sizes(start, &part.sizes, &label),
+        0x50 => vec![(start..start, Sort::Heading, label)],
+        0x54 => {
+            // Where it is not whole, its integers say what there is of it.
+            let text = match moment::of(types.own(part.row), bytes) {
+                Some(stamp) => format!("{label} = {}", moment::text(stamp)),
+                None => label,
+            };
+            vec![(start..start, Sort::Heading, text)]
         }
         _ => {
-            let number = content::number(types, part.row, &data[part.bytes.clone()]);
-            push(
-                part.bytes.clone(),
-                Sort::Number,
-                format!("{label} = {number}"),
-            );
+            let number = content::number(types, part.row, bytes);
+            let text = format!("{label} = {number}");
+            vec![(part.bytes.clone(), Sort::Number, text)]
         }
+    };
+    fields.extend(says.into_iter().map(|(bytes, sort, text)| Field {
+        bytes,
+        depth: part.path.len(),
+        sort,
+        text,
+    }));
+}
+
+/// Where some bytes of a part stand, of what sort they are, and what they say.
+type Says = (Range<usize>, Sort, String);
+
+/// A string's length word, and its characters where it has any.
+fn string(start: usize, bytes: &[u8], label: &str, all: bool) -> Vec<Says> {
+    let (word, characters) = bytes.split_at(4);
+    let text = format!("{label}, length {}", characters.len());
+    let behind = start + word.len();
+    let mut says = vec![(start..behind, Sort::Size, text)];
+    if !characters.is_empty() {
+        let text = content::characters(characters, all);
+        says.push((behind..start + bytes.len(), Sort::Text, text));
     }
+    says
+}
+
+/// An array's size words.
+fn sizes(start: usize, sizes: &[u32], label: &str) -> Vec<Says> {
+    let size_word = |(dimension, size)| {
+        let at = start + 4 * dimension;
+        let text = match dimension {
+            0 => format!("{label}, size {size}"),
+            _ => format!("size {size}"),
+        };
+        (at..at + 4, Sort::Count, text)
+    };
+    sizes.iter().enumerate().map(size_word).collect()
 }
 
 /// A part's last step, its name and its type.

@@ -1,5 +1,7 @@
 //! What `--help` and `--version` say.
 
+use std::ops::Range;
+
 use crate::command::{COMMANDS, Command};
 
 const OPENING: &str =
@@ -35,19 +37,22 @@ pub fn text(command: Option<&Command>) -> String {
     for command in &COMMANDS {
         let about = about(command.name);
         let first = about.lines().next().unwrap_or_default();
-        text += &format!("  {:<9}{first}\n", command.name);
+        text += &format!("  {:<11}{first}\n", command.name);
     }
     text + CLOSING
 }
 
 fn usage(command: &Command) -> String {
     let mut words = vec!["kerbcanopy".to_string(), command.name.into()];
-    let needed = command.needed().len();
-    for (index, file) in command.files.iter().enumerate() {
-        words.push(match index < needed {
-            true => file.word().into(),
-            false => format!("[{}]", file.word()),
-        });
+    let Range { start, end } = command.optional;
+    for (index, operand) in command.operands.iter().enumerate() {
+        let open = if index == start && start < end {
+            "["
+        } else {
+            ""
+        };
+        let close = if index + 1 == end { "]" } else { "" };
+        words.push(format!("{open}{}{close}", operand.word()));
     }
     if command.steps {
         words.push("[STEP..]".into());
@@ -64,7 +69,7 @@ fn usage(command: &Command) -> String {
 }
 
 /// What each command does: a line, then what else there is to say.
-const ABOUT: [(&str, &str); 11] = [
+const ABOUT: [(&str, &str); 12] = [
     (
         "check",
         "lists a descriptor's types, or says why it is none
@@ -101,7 +106,9 @@ A piece is one number or Boolean, one whole string, or the sizes of one array.
         "lists every value of accepted data with its path, name and type
 
 The path stands first: the steps that value and view take. The first elements of
-an array are listed, or every one with --all.
+an array are listed, or every one with --all. A time stamp is a date and a time in
+universal time, by the Gregorian calendar in every year (year 0 comes before year
+1) and with 86,400 seconds in every day; its fraction has all its digits, up to 64.
 ",
     ),
     (
@@ -117,9 +124,10 @@ For refused bytes it shows what was read before the refusal, and marks the place
         "value",
         "gives the number that steps lead to
 
-A step is a member's number in a cluster, an element's in an array, counted from
-0, or a member's name where it is unique there. A name of digits alone, or one
-with other bytes than printable ASCII, is written in quotes as check shows it.
+A step is a member's number in a cluster or an element's in an array, counted
+from 0, or 0 in a time stamp, or a member's name where it is unique there. A name
+of digits alone, or one with other bytes than printable ASCII, is written in
+quotes as check shows it.
 ",
     ),
     (
@@ -127,6 +135,18 @@ with other bytes than printable ASCII, is written in quotes as check shows it.
         "gives the bytes that steps lead to, length and size words included
 
 The steps are those of value. -o writes the bytes to a file.
+",
+    ),
+    (
+        "difference",
+        "gives the exact time between two time stamps, first less second
+
+A PATH is the steps of value in one word, with spaces between them, as dump lists
+them, so several stand in quotes: '1 start'. A name with spaces has quotes of its
+own, and - is no step at all. Without a second DESCRIPTOR and DATA both stamps
+stand in one record. Given are the seconds as a decimal number with all its
+digits, then as whole seconds, rounded down, and the fraction of 2^64 that is
+left, from 0 up to one second.
 ",
     ),
     (
@@ -183,6 +203,10 @@ mod tests {
         assert_eq!(
             of("explain"),
             "kerbcanopy explain DESCRIPTOR [DATA] [--all] [--html] [-o OUT] [--hex] [--json]"
+        );
+        assert_eq!(
+            of("difference"),
+            "kerbcanopy difference DESCRIPTOR DATA PATH [DESCRIPTOR DATA] PATH [--hex] [--json]"
         );
         assert_eq!(
             of("view"),

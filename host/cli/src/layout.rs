@@ -125,7 +125,10 @@ impl Reading<'_> {
         self.field(1, end, Sort::Code, |_| {
             format!("code {low:02X}, {}", code(low))
         })?;
-        self.passes(start, &[5], || format!("code {low:02X}"))?;
+        // Of a time stamp the number judges the subtype.
+        if low != 0x54 {
+            self.passes(start, &[5], || format!("code {low:02X}"))?;
+        }
         // Their meaning says it all.
         self.passes(start, &[6, 7], String::new)?;
         if in_array && low == 0x40 {
@@ -133,6 +136,11 @@ impl Reading<'_> {
         }
         let end = start + usize::from(size);
         self.body(start, end, low)?;
+        if low == 0x54 {
+            self.passes(start, &[10], || {
+                "inside is no cluster of 03, 03, 07 and 07, all without names".into()
+            })?;
+        }
         let rest = counted(end.saturating_sub(self.at), "byte");
         self.passes(start, &[11], || format!("{rest} left of its size"))?;
         self.name(end)
@@ -163,6 +171,11 @@ impl Reading<'_> {
                     self.inside(end, member, &format!("member {member}: "), false)?;
                 }
                 Some(())
+            }
+            0x54 => {
+                let subtype = self.word(end, Sort::Body, |subtype| format!("subtype {subtype}"))?;
+                self.passes(start, &[5], || format!("subtype {subtype}"))?;
+                self.inside(end, 0, "part 0: ", false)
             }
             _ => Some(()),
         }
@@ -325,7 +338,7 @@ mod tests {
 
     #[test]
     fn the_facts_are_those_that_were_judged() {
-        let cases: [(&[u8], &str); 13] = [
+        let cases: [(&[u8], &str); 16] = [
             (b"\x00\x04\x00", "3 bytes left"),
             (b"\x00\x08\x00\x03", "size 8, 4 bytes there"),
             (b"\x00\x04\x00\x32", "code 32"),
@@ -338,6 +351,12 @@ mod tests {
             (
                 b"\x00\x18\x00\x40\x00\x01\xFF\xFF\xFF\xFF\x00\x0E\x00\x40\x00\x01\xFF\xFF\xFF\xFF\x00\x04\x00\x0A",
                 "an array in an array",
+            ),
+            (b"\x00\x04\x00\x54", "2 bytes needed, 0 left"),
+            (b"\x00\x06\x00\x54\x00\x05", "subtype 5"),
+            (
+                b"\x00\x0A\x00\x54\x00\x06\x00\x04\x00\x0A",
+                "inside is no cluster of 03, 03, 07 and 07, all without names",
             ),
             (b"\x00\x06\x00\x03\x02a", "2 bytes left of its size"),
             (b"\x00\x04\x00\x03\x02a", "2 bytes behind it"),

@@ -10,6 +10,7 @@ mod command;
 #[cfg(test)]
 mod consistency;
 mod content;
+mod date;
 mod descriptor;
 mod difference;
 mod explain;
@@ -19,6 +20,7 @@ mod hexadecimal;
 mod input;
 mod json;
 mod layout;
+mod moment;
 mod outcome;
 mod output;
 mod path;

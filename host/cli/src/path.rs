@@ -1,6 +1,7 @@
 //! Paths: steps by number or by name, and a path in words.
 
 use std::ffi::{OsStr, OsString};
+use std::os::unix::ffi::OsStrExt;
 
 use crate::descriptor::Descriptor;
 use crate::facts;
@@ -11,7 +12,8 @@ use crate::words::{kind, quoted, shown};
 fn inside(descriptor: &Descriptor, row: usize, step: u32) -> Option<usize> {
     match descriptor.rows[row].code {
         0x40 => Some(row + 1),
-        0x50 => descriptor.inside(row).get(step as usize).copied(),
+        // A time stamp has one part.
+        0x50 | 0x54 => descriptor.inside(row).get(step as usize).copied(),
         _ => None,
     }
 }
@@ -61,6 +63,39 @@ pub fn numbers(path: &[u32]) -> Json {
     Json::list(path.iter().map(|&step| Json::number(step)))
 }
 
+/// The steps of a path in one word: spaces stand between them, and a step in quotes
+/// may have some in it. A dash alone, as the listings show it, is no step at all.
+pub fn split(word: &OsStr) -> Vec<OsString> {
+    let bytes = word.as_bytes();
+    if bytes == b"-" {
+        return Vec::new();
+    }
+    let mut steps = Vec::new();
+    let mut rest = bytes.trim_ascii_start();
+    while !rest.is_empty() {
+        let (step, behind) = rest.split_at(step_end(rest));
+        steps.push(OsStr::from_bytes(step).into());
+        rest = behind.trim_ascii_start();
+    }
+    steps
+}
+
+/// Where the first step ends: at a space outside of quotes.
+fn step_end(bytes: &[u8]) -> usize {
+    let mut quoted = false;
+    let mut escaped = false;
+    for (at, &byte) in bytes.iter().enumerate() {
+        match byte {
+            _ if escaped => escaped = false,
+            b'"' if at == 0 || quoted => quoted = at == 0,
+            b'\\' if quoted => escaped = true,
+            _ if byte.is_ascii_whitespace() && !quoted => return at,
+            _ => {}
+        }
+    }
+    bytes.len()
+}
+
 /// The numbers of steps that may be names, or why a name has none. Behind a step
 /// that leads nowhere a name counts as 0: the step before it is refused.
 pub fn resolve(descriptor: &Descriptor, steps: &[OsString]) -> Result<Vec<u32>, String> {
@@ -97,6 +132,11 @@ fn member(descriptor: &Descriptor, row: usize, step: &OsStr) -> Result<u32, Stri
             let kind = kind(descriptor, row);
             return Err(format!(
                 "{word} is no element's number, and this is an {kind}"
+            ));
+        }
+        0x54 => {
+            return Err(format!(
+                "{word} is no part of a time stamp, whose one part is 0"
             ));
         }
         _ => return Ok(0),
@@ -189,6 +229,25 @@ mod tests {
         assert!(trouble(&["\"a\"b"]).contains("no name in quotes"));
         assert!(trouble(&["\"\\n\""]).contains("no name in quotes"));
         assert!(trouble(&["4294967296"]).contains("no step"));
+    }
+
+    #[test]
+    fn a_path_in_one_word_is_split_at_its_spaces() {
+        let of = |word: &str| split(OsStr::new(word));
+        assert_eq!(of("-"), [""; 0]);
+        assert_eq!(of(""), [""; 0]);
+        assert_eq!(of("  "), [""; 0]);
+        assert_eq!(of("3"), ["3"]);
+        assert_eq!(of(" 3 \t0  id "), ["3", "0", "id"]);
+        assert_eq!(of(r#""a b" 0"#), [r#""a b""#, "0"]);
+        assert_eq!(
+            of(r#""a \" b" "" c"d e""#),
+            [r#""a \" b""#, r#""""#, "c\"d", "e\""]
+        );
+        assert_eq!(of(r#""a\\" b"#), [r#""a\\""#, "b"]);
+        assert_eq!(of("\"a b"), ["\"a b"]);
+        assert_eq!(of(r#""-""#), [r#""-""#]);
+        assert_eq!(of("- 0"), ["-", "0"]);
     }
 
     #[test]

@@ -3,6 +3,7 @@
 
 use std::ffi::OsString;
 
+use kerbcanopy::accepted::Stamp;
 use kerbcanopy::{Answer, meaning};
 
 use crate::descriptor::Descriptor;
@@ -12,6 +13,7 @@ use crate::hexadecimal::Decoder;
 use crate::input::Input;
 use crate::json::Json;
 use crate::layout;
+use crate::moment;
 use crate::outcome::Outcome;
 use crate::path;
 use crate::tokens::{self, Order};
@@ -32,6 +34,8 @@ pub struct Lent<'a> {
     pub path: &'a [u32],
     /// The output's length.
     pub room: usize,
+    /// The two stamps whose difference is asked for, each with its data.
+    pub stamps: Option<[(&'a Input, Stamp); 2]>,
 }
 
 impl<'a> Lent<'a> {
@@ -45,6 +49,7 @@ impl<'a> Lent<'a> {
             steps: &[],
             path: &[],
             room: 0,
+            stamps: None,
         }
     }
 
@@ -106,6 +111,7 @@ impl Refusal {
                 refusal.facts = layout.facts;
                 refusal.falls_in(layout.path, None);
             }
+            32 => refusal.of_stamps(lent.stamps),
             50 => {
                 refusal.there = format!("room for {}", counted(lent.room, "byte"));
                 refusal.facts = format!("{} needed", counted(answer.place as usize, "byte"));
@@ -116,6 +122,19 @@ impl Refusal {
             refusal.facts += "; it looks like hexadecimal text, which --hex reads";
         }
         refusal
+    }
+
+    /// 32: the two stamps, and what their difference's seconds would be. Neither is
+    /// wrong by itself, so both files are named.
+    fn of_stamps(&mut self, stamps: Option<[(&Input, Stamp); 2]>) {
+        if let Some([(data, first), (other, second)]) = stamps {
+            if other.name != data.name {
+                self.file = format!("{} and {}", data.name, other.name);
+            }
+            let [one, other] = [first, second].map(moment::text);
+            self.there = format!("{one} less {other}");
+            self.facts = format!("{} seconds", moment::whole_seconds(first, second));
+        }
     }
 
     /// What is refused under accepted descriptors.

@@ -14,7 +14,7 @@ pub enum Order {
     Little,
 }
 
-/// A number, string, array or cluster.
+/// A number, string, array, cluster or time stamp.
 #[derive(Debug, PartialEq, Eq)]
 pub struct Part {
     pub row: usize,
@@ -113,7 +113,8 @@ impl Walk<'_> {
     fn value(&mut self, row: usize) -> Option<()> {
         let start = self.at;
         let code = self.descriptor.rows[row].code;
-        if code != 0x50 && self.stop == Some(start) {
+        // A cluster and a time stamp have no piece of their own.
+        if !matches!(code, 0x50 | 0x54) && self.stop == Some(start) {
             let path = self.path.clone();
             self.fault = Some(Fault { row, path });
             return None;
@@ -126,7 +127,7 @@ impl Walk<'_> {
             sizes: Vec::new(),
         }));
         let sizes = match code {
-            0x50 => {
+            0x50 | 0x54 => {
                 self.members(row)?;
                 Vec::new()
             }
@@ -156,6 +157,7 @@ impl Walk<'_> {
         }
     }
 
+    /// The members of a cluster, or a time stamp's one part.
     fn members(&mut self, row: usize) -> Option<()> {
         for step in 0..self.inside[row].len() {
             let member = self.inside[row][step];

@@ -25,6 +25,7 @@ pub fn code(code: u16) -> String {
         0x30 => "string".into(),
         0x40 => "array".into(),
         0x50 => "cluster".into(),
+        0x54 => "time stamp".into(),
         _ => "no type that is read here".into(),
     }
 }
@@ -141,12 +142,12 @@ mod tests {
     #[test]
     fn every_carried_code_has_words() {
         let carried = (0x01..=0x0E).chain(0x15..=0x17).chain(0x19..=0x1E);
-        let carried = carried.chain([0x21, 0x30, 0x40, 0x50]);
+        let carried = carried.chain([0x21, 0x30, 0x40, 0x50, 0x54]);
         let mut words: Vec<_> = carried.map(code).collect();
         assert!(!words.contains(&code(0x32)));
         words.sort();
         words.dedup();
-        assert_eq!(words.len(), 27);
+        assert_eq!(words.len(), 28);
     }
 
     #[test]

@@ -19,6 +19,7 @@ HEIGHT = 900
 # Descriptors and data in hexadecimal; the page must mark the place that the command's own answer has.
 RIG = "0014 0050 0002 0006 0002 0174 0008 0007 0269 6400"
 STRINGS = "0012 0040 0001 FFFF FFFF 0008 0030 FFFF FFFF"
+STAMP = "001C 0054 0006 0016 0050 0004 0004 0003 0004 0003 0004 0007 0004 0007"
 CASES = [
     ("accepted", RIG, "0019 0000 0009"),
     ("cut in the second member", RIG, "0019 0000 00"),
@@ -31,6 +32,10 @@ CASES = [
     ("no bytes at all", "", None),
     ("a name that is none", "0050 0050 0009" + " 0008 0003 0361 6263" * 9 + " 0961", None),
     ("foreign text in a name", "0026 0003 213C 7363 7269 7074 3E64 6F63 756D 656E 742E 7469 746C 653D 313C 2F73 6372 6970 743E", None),
+    ("a time stamp", STAMP, "7FFF FFFF FFFF FFFF FFFF FFFF FFFF FFFF"),
+    ("a time stamp, cut", STAMP, "7FFF FFFF FFFF"),
+    ("a time stamp of another subtype", STAMP.replace("0054 0006", "0054 0007"), None),
+    ("a time stamp of other integers", STAMP.replace("0004 0007", "0004 0008"), None),
     ("too long", "00 04" * 2100, None),
 ]
 
@@ -190,9 +195,8 @@ def point(count, browser, name, sections, width):
     """Points at bytes and at fields: each marks the other and nothing else."""
     number = len(sections) - 1
     fields = sections[number]["fields"]
-    for index, field in enumerate(fields[:6] + fields[-2:]):
-        index = index if index < 6 else len(fields) - 2 + (index - 6)
-        if index >= len(fields) or field["length"] == 0:
+    for index, field in enumerate(fields):
+        if 6 <= index < len(fields) - 2 or field["length"] == 0:
             continue
         expected = list(range(field["start"], field["start"] + field["length"]))
         mark = f'[data-f="{number}-{index}"]'

@@ -1,16 +1,17 @@
 //! The cases of a seed by their numbers: first the limits of descriptors, of
-//! records and of data, then what chance brings.
+//! records, of data and of time stamps, then what chance brings.
 
 use crate::difference::Held;
 use crate::random::Random;
 use crate::tally::Tally;
-use crate::{data, descriptor, record};
+use crate::{data, descriptor, interval, record};
 
-/// A case about descriptors, data or a record in a reader's shape.
+/// A case about descriptors, data, a record in a reader's shape or time stamps.
 pub enum Case {
     Descriptor(descriptor::case::Case),
     Data(data::case::Case),
     Record(record::case::Case),
+    Interval(interval::case::Case),
 }
 
 /// The cases that every seed starts with.
@@ -18,6 +19,7 @@ pub struct Limits {
     descriptors: Vec<descriptor::limits::Limit>,
     data: Vec<data::limits::Limit>,
     records: Vec<record::limits::Limit>,
+    intervals: Vec<interval::limits::Limit>,
 }
 
 impl Limits {
@@ -26,6 +28,7 @@ impl Limits {
             descriptors: descriptor::limits::all(),
             data: data::limits::all(),
             records: record::limits::all(),
+            intervals: interval::limits::all(),
         }
     }
 }
@@ -45,10 +48,15 @@ impl Case {
         if let Some(limit) = limits.data.get(number) {
             return Case::Data(data::case::Case::of_limit(limit, random));
         }
-        match random.below(5) {
-            0..2 => Case::Descriptor(descriptor::case::Case::any(random)),
-            2..4 => Case::Data(data::case::Case::any(random)),
-            _ => Case::Record(record::case::Case::any(random)),
+        let number = number - limits.data.len();
+        if let Some(limit) = limits.intervals.get(number) {
+            return Case::Interval(interval::case::Case::of_limit(limit));
+        }
+        match random.below(51) {
+            0..20 => Case::Descriptor(descriptor::case::Case::any(random)),
+            20..40 => Case::Data(data::case::Case::any(random)),
+            40..50 => Case::Record(record::case::Case::any(random)),
+            _ => Case::Interval(interval::case::Case::any(random)),
         }
     }
 
@@ -57,6 +65,7 @@ impl Case {
             Case::Descriptor(case) => &case.what,
             Case::Data(case) => &case.what,
             Case::Record(case) => &case.what,
+            Case::Interval(case) => &case.what,
         }
     }
 
@@ -66,6 +75,7 @@ impl Case {
             Case::Descriptor(case) => descriptor::hold::hold(case, random, exact, tally),
             Case::Data(case) => data::hold::hold(case, random, exact, tally),
             Case::Record(case) => record::hold::hold(case, random, exact, tally),
+            Case::Interval(case) => interval::hold::hold(case, tally),
         }
     }
 }

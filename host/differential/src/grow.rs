@@ -2,6 +2,7 @@
 //! ones break limits here and there.
 
 use crate::random::Random;
+use crate::stamp;
 use crate::tree::{Body, Tree};
 
 pub const PLAIN: [u8; 15] = [1, 2, 3, 4, 5, 6, 7, 8, 9, 0xA, 0xB, 0xC, 0xD, 0xE, 0x21];
@@ -11,7 +12,7 @@ struct Room {
     rows: usize,
     bytes: usize,
     depth: usize,
-    /// Counts, base indexes and arrays in arrays may break their rules.
+    /// Counts, base indexes, arrays in arrays and time stamps may break their rules.
     lawless: bool,
     style: Style,
 }
@@ -38,6 +39,15 @@ impl Room {
     /// Whether a child fits beneath `depth` behind `bytes` of the parent's body.
     fn holds_child(&self, depth: usize, bytes: usize) -> bool {
         depth < self.depth && self.rows > 0 && self.bytes >= bytes + 4
+    }
+
+    /// Takes what a time stamp at `depth` holds, if it fits.
+    fn take_stamp(&mut self, depth: usize) -> bool {
+        let enough = depth + 2 <= self.depth && self.rows >= 5 && self.take(24);
+        if enough {
+            self.rows -= 5;
+        }
+        enough
     }
 }
 
@@ -109,10 +119,10 @@ fn grow(random: &mut Random, depth: usize, room: &mut Room, in_array: bool) -> T
     // With much room to fill, the top is a cluster.
     let choices = match (depth, room.style) {
         (1, _) if room.rows > 30 => 7,
-        (1, _) => 18,
-        (_, Style::Usual) => 24,
-        (_, Style::Lean) => 80,
-        (_, Style::Rich) => 18,
+        (1, _) => 19,
+        (_, Style::Usual) => 25,
+        (_, Style::Lean) => 81,
+        (_, Style::Rich) => 19,
     };
     let body = match random.below(choices) {
         0..7 if room.holds_child(depth, 2) => cluster(random, depth, room),
@@ -122,6 +132,10 @@ fn grow(random: &mut Random, depth: usize, room: &mut Room, in_array: bool) -> T
         10..12 => enumeration(random, room),
         12..14 => quantity(random, room),
         14..16 if room.take(4) => Body::Text,
+        16 if room.take_stamp(depth) => match room.lawless && !random.once_in(4) {
+            true => stamp::wrong(random),
+            false => Body::stamp(),
+        },
         _ => Body::Plain(random.pick(&PLAIN)),
     };
     let named = room.style == Style::Usual || random.once_in(6);

@@ -6,6 +6,7 @@ pub enum Area {
     Descriptor,
     Data,
     Record,
+    Interval,
 }
 
 #[derive(Clone, Copy, PartialEq, Eq)]
@@ -29,6 +30,10 @@ pub enum Kind {
     WideRecord,
     DamagedRecord,
     NoRecord,
+    StampLimit,
+    Stamps,
+    Summed,
+    Apart,
 }
 
 /// A kind with its words and the column in which it is counted.
@@ -61,8 +66,8 @@ const OF_DESCRIPTORS: [u32; 12] = [1, 2, 3, 4, 5, 6, 7, 8, 9, 10, 11, 12];
 const OF_DATA: [u32; 6] = [20, 21, 22, 23, 24, 25];
 
 /// Every kind, in the order of the enum.
-pub const KINDS: [Known; 19] = {
-    use Area::{Data, Descriptor, Record};
+pub const KINDS: [Known; 23] = {
+    use Area::{Data, Descriptor, Interval, Record};
     [
         known(
             Kind::Limit,
@@ -167,6 +172,33 @@ pub const KINDS: [Known; 19] = {
             Record,
             ["no cluster", "writers and readers that are no clusters"],
             &[40, 41],
+        ),
+        known(
+            Kind::StampLimit,
+            Interval,
+            ["limits", "limits of time stamps"],
+            &[0, 32],
+        ),
+        known(
+            Kind::Stamps,
+            Interval,
+            ["any", "any two time stamps"],
+            &[0, 32],
+        ),
+        known(
+            Kind::Summed,
+            Interval,
+            ["summed", "a time stamp and a time more or less"],
+            &[0],
+        ),
+        known(
+            Kind::Apart,
+            Interval,
+            [
+                "apart",
+                "time stamps in one second, or as far apart as can be",
+            ],
+            &[0, 32],
         ),
     ]
 };

@@ -3,7 +3,8 @@
 //! same, set every number and leave what stands around it.
 
 use kerbcanopy::lent::{self, Numbers, Table};
-use kerbcanopy::{Answer, Checked, Compared, Part, Row, Value};
+use kerbcanopy::{Answer, Checked, Compared, Difference, Part, Row, Value};
+use reference::Stamp;
 
 use crate::difference::{Held, demand, demand_guarded, outputs};
 
@@ -177,6 +178,31 @@ pub fn read_record(writer: &[u8], reader: &[u8], data: &[u8], out: &mut [u8]) ->
         |room| kerbcanopy::read_record(writer, reader, data, room),
         |room, answer| lent::read_record(writer, reader, data, room, answer),
     )
+}
+
+pub fn stamp_difference(first: Stamp, second: Stamp) -> Held<Difference> {
+    let question = "stamp_difference_into";
+    let [first, second] = [first, second].map(|stamp| kerbcanopy::Stamp {
+        seconds_high: stamp.seconds_high,
+        seconds_low: stamp.seconds_low,
+        fraction_high: stamp.fraction_high,
+        fraction_low: stamp.fraction_low,
+    });
+    let difference = kerbcanopy::stamp_difference(first, second);
+    let mut answer = painted();
+    let mut seconds = Guarded::new(i64::from_ne_bytes([PAINT; 8]));
+    let mut fraction = painted_number();
+    lent::stamp_difference(
+        first,
+        second,
+        &mut answer.lent,
+        &mut seconds.lent,
+        &mut fraction.lent,
+    );
+    demand_numbers(question, &answer, difference.answer)?;
+    demand_lent(question, &seconds, &difference.seconds)?;
+    demand_lent(question, &fraction, &difference.fraction)?;
+    Ok(difference)
 }
 
 /// Both forms write into equal rooms, the second between guards.

@@ -1,8 +1,9 @@
-//! Counts what the cases met, and says whether anything of document 01 was met
-//! too seldom.
+//! Counts what the cases met, and says whether anything of document 01, or of
+//! request 1 of document 02, was met too seldom.
 
 mod data;
 mod descriptor;
+mod interval;
 mod lines;
 mod met;
 mod record;
@@ -11,7 +12,7 @@ mod table;
 use reference::{Answer, Compared};
 
 use crate::entry::Entry;
-use crate::kind::{Area, Kind};
+use crate::kind::Kind;
 use crate::twin::{CHANGES, Change};
 use lines::Lines;
 use met::{ANSWERS, CODES, Coded, Deep, NUMBERS};
@@ -20,13 +21,14 @@ use table::{Cell, Table};
 pub struct Tally {
     pub cases: u64,
     answers: Table,
-    kinds: [Table; 3],
+    kinds: [Table; 4],
     depths: Table,
     codes: Table,
     bodies: Table,
     rooms: Table,
     comparisons: Table,
     records: Table,
+    stamps: Table,
     lines: Lines,
 }
 
@@ -47,13 +49,14 @@ impl Tally {
         Tally {
             cases: 0,
             answers: met::answers(),
-            kinds: [Area::Descriptor, Area::Data, Area::Record].map(met::kinds),
+            kinds: met::AREAS.map(met::kinds),
             depths: met::depths(),
             codes: met::codes(),
             bodies: met::bodies(),
             rooms: met::rooms(),
             comparisons,
             records: record::reasons(),
+            stamps: interval::standings(),
             lines: Lines::new(),
         }
     }
@@ -67,35 +70,39 @@ impl Tally {
         self.lines.add(&other.lines);
     }
 
-    fn tables(&self) -> [&Table; 10] {
-        let [descriptors, data, records] = &self.kinds;
+    fn tables(&self) -> [&Table; 12] {
+        let [descriptors, data, records, intervals] = &self.kinds;
         [
             &self.answers,
             descriptors,
             data,
             records,
+            intervals,
             &self.depths,
             &self.codes,
             &self.bodies,
             &self.rooms,
             &self.comparisons,
             &self.records,
+            &self.stamps,
         ]
     }
 
-    fn tables_mut(&mut self) -> [&mut Table; 10] {
-        let [descriptors, data, records] = &mut self.kinds;
+    fn tables_mut(&mut self) -> [&mut Table; 12] {
+        let [descriptors, data, records, intervals] = &mut self.kinds;
         [
             &mut self.answers,
             descriptors,
             data,
             records,
+            intervals,
             &mut self.depths,
             &mut self.codes,
             &mut self.bodies,
             &mut self.rooms,
             &mut self.comparisons,
             &mut self.records,
+            &mut self.stamps,
         ]
     }
 
@@ -126,8 +133,10 @@ impl Tally {
 
     /// Counts a case by its kind and the answer to the first question about it.
     fn case(&mut self, kind: Kind, answer: Answer) {
-        if let Some(row) = NUMBERS.iter().position(|number| *number == answer.number) {
-            self.kinds[kind.known().area as usize].count(row, kind.column());
+        let area = kind.known().area;
+        let mut numbers = met::numbers(area).iter();
+        if let Some(row) = numbers.position(|number| *number == answer.number) {
+            self.kinds[area as usize].count(row, kind.column());
         }
     }
 

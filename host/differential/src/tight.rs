@@ -3,6 +3,7 @@
 
 use crate::grow::PLAIN;
 use crate::random::Random;
+use crate::stamp;
 use crate::tree::{Body, Tree};
 
 const ENUMERATIONS: [u8; 3] = [0x15, 0x16, 0x17];
@@ -55,7 +56,7 @@ fn named(random: &mut Random, body: Body) -> Tree {
 
 /// A small tree whose counts are at their limits.
 fn tip(random: &mut Random) -> Tree {
-    let body = match random.below(9) {
+    let body = match random.below(10) {
         0 => Body::Text,
         1 => quantity(random, &[1, 2, 8, 9]),
         2 => few_items(random),
@@ -68,6 +69,7 @@ fn tip(random: &mut Random) -> Tree {
             Body::Array(random.pick(&[1, 2, 3, 4, 4]), Box::new(inner))
         }
         5 => Body::Cluster(vec![flat_tip(random)]),
+        9 => Body::stamp(),
         _ => Body::Plain(random.pick(&PLAIN)),
     };
     named(random, body)
@@ -104,10 +106,10 @@ fn quantity(random: &mut Random, counts: &[usize]) -> Body {
 }
 
 /// A tip with a fault: a count or an index one past its limit, an array in an
-/// array, or a member too few.
+/// array, a member too few, or no time stamp after all.
 fn lawless_tip(random: &mut Random) -> Tree {
     let element = Box::new(flat_tip(random));
-    let body = match random.below(7) {
+    let body = match random.below(8) {
         0 => Body::Enumeration(random.pick(&ENUMERATIONS), Vec::new()),
         1 => Body::Cluster(Vec::new()),
         2 => quantity(random, &[0]),
@@ -122,6 +124,7 @@ fn lawless_tip(random: &mut Random) -> Tree {
             Body::Quantity(random.pick(&QUANTITIES), pairs)
         }
         5 => Body::Array(random.pick(&[0, 5, 6]), element),
+        6 => stamp::wrong(random),
         _ => Body::Array(1, Box::new(Tree::unnamed(Body::Array(4, element)))),
     };
     named(random, body)
@@ -225,13 +228,13 @@ fn packed(random: &mut Random, mut bytes: usize) -> Vec<Vec<u8>> {
     items
 }
 
-/// A judged scalar, a string or a number at any depth, for data, now and then as
-/// the last of as many members as there can be.
+/// A judged scalar, a string, a number or a time stamp at any depth, for data, now
+/// and then as the last of as many members as there can be.
 pub fn for_data(random: &mut Random) -> Tree {
     if random.once_in(30) {
         return wide(random);
     }
-    let body = match random.below(6) {
+    let body = match random.below(7) {
         0 => Body::Plain(0x21),
         1 | 2 => {
             let count = random.pick(&[1, 2, 127, 128, 254, 255, 256, 257, 300]);
@@ -242,9 +245,12 @@ pub fn for_data(random: &mut Random) -> Tree {
             true => Body::Text,
             false => quantity(random, &[1]),
         },
+        5 => Body::stamp(),
         _ => Body::Plain(random.pick(&PLAIN)),
     };
-    let levels = random.pick(&[0, 1, 2, 3, 4, 5, 6, 7, 7]);
+    // What a time stamp holds is two levels deeper.
+    let most = if body.code() == 0x54 { 5 } else { 7 };
+    let levels = random.pick(&[0, 1, 2, 3, 4, 5, 6, 7, 7]).min(most);
     let mut tree = buried(random, Tree::unnamed(body), levels);
     beside(random, &mut tree);
     tree

@@ -24,6 +24,8 @@ pub enum Body {
     /// A dimension count and the element.
     Array(u16, Box<Tree>),
     Cluster(Vec<Tree>),
+    /// A time stamp: a subtype and what it holds.
+    Stamp(u16, Box<Tree>),
 }
 
 /// A tree's bytes and the rows that its table must have.
@@ -38,8 +40,8 @@ impl Tree {
         Tree { body, name: None }
     }
 
-    /// Whether every count and index keeps its limits and no array is an array's
-    /// element.
+    /// Whether every count and index keeps its limits, no array is an array's element
+    /// and every time stamp is one.
     pub fn is_lawful(&self) -> bool {
         match &self.body {
             Body::Plain(_) | Body::Text => true,
@@ -53,6 +55,7 @@ impl Tree {
                     && element.is_lawful()
             }
             Body::Cluster(members) => !members.is_empty() && members.iter().all(Tree::is_lawful),
+            Body::Stamp(subtype, held) => *subtype == 6 && **held == halves(),
         }
     }
 
@@ -101,19 +104,30 @@ pub fn fits(tree: &Tree) -> bool {
         && usize::from(deepest.unwrap_or(0)) <= MOST_DEPTH
 }
 
+/// What a time stamp holds: the halves of its seconds and of its fraction.
+pub fn halves() -> Tree {
+    let members = [0x03, 0x03, 0x07, 0x07].map(|code| Tree::unnamed(Body::Plain(code)));
+    Tree::unnamed(Body::Cluster(members.into()))
+}
+
 impl Body {
+    pub fn stamp() -> Body {
+        Body::Stamp(6, Box::new(halves()))
+    }
+
     pub fn code(&self) -> u8 {
         match self {
             Body::Plain(code) | Body::Enumeration(code, _) | Body::Quantity(code, _) => *code,
             Body::Text => 0x30,
             Body::Array(..) => 0x40,
             Body::Cluster(_) => 0x50,
+            Body::Stamp(..) => 0x54,
         }
     }
 
     fn count(&self) -> u16 {
         match self {
-            Body::Plain(_) | Body::Text => 0,
+            Body::Plain(_) | Body::Text | Body::Stamp(..) => 0,
             Body::Enumeration(_, items) => items.len() as u16,
             Body::Quantity(_, pairs) => pairs.len() as u16,
             Body::Array(dimensions, _) => *dimensions,
@@ -122,7 +136,7 @@ impl Body {
     }
 
     fn append(&self, to: &mut Encoded, depth: u16, reserved: &mut dyn FnMut() -> u8) {
-        if !matches!(self, Body::Plain(_) | Body::Text) {
+        if !matches!(self, Body::Plain(_) | Body::Text | Body::Stamp(..)) {
             to.bytes.extend(self.count().to_be_bytes());
         }
         match self {
@@ -141,6 +155,10 @@ impl Body {
                 for member in members {
                     member.append(to, depth + 1, reserved);
                 }
+            }
+            Body::Stamp(subtype, held) => {
+                to.bytes.extend(subtype.to_be_bytes());
+                held.append(to, depth + 1, reserved);
             }
         }
     }

@@ -68,7 +68,7 @@ pub fn twin(random: &mut Random, tree: &Tree) -> (Tree, Change) {
     }
 }
 
-/// How many descriptors the tree has.
+/// How many descriptors the tree has, those that time stamps hold apart.
 fn count(tree: &Tree) -> usize {
     1 + match &tree.body {
         Body::Array(_, element) => count(element),
@@ -115,6 +115,10 @@ fn alter(random: &mut Random, tree: &mut Tree) -> Change {
             Change::Dimensions
         }
         Body::Cluster(members) => alter_members(random, members),
+        Body::Stamp(_, held) => {
+            tree.body = held.body.clone();
+            Change::Code
+        }
     }
 }
 

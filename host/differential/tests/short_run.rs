@@ -57,12 +57,14 @@ fn what_was_met_is_printed() {
         "descriptors by kind",
         "data by kind",
         "records by kind",
+        "stamps by kind",
         "by depth",
         "code ",
         "bodies",
         "room",
         "compared, differing in",
         "because",
+        "stamps ",
         "a number's value",
     ] {
         let table = lines.iter().any(|line| line.starts_with(title));

@@ -12,6 +12,8 @@ pub(crate) enum Kind {
     Text,
     Array,
     Cluster,
+    /// A time stamp, or another of the types that share its code.
+    Stamp,
 }
 
 const fn kind_of(code: usize) -> Kind {
@@ -22,6 +24,7 @@ const fn kind_of(code: usize) -> Kind {
         0x30 => Kind::Text,
         0x40 => Kind::Array,
         0x50 => Kind::Cluster,
+        0x54 => Kind::Stamp,
         _ => Kind::Foreign,
     }
 }

@@ -1,7 +1,8 @@
 //! The questions of document 01 about a descriptor and its data, answered a
 //! second time in safe Rust: descriptor check, compare and normal form; data
 //! check, view, value, to little-endian and back; the record in a reader's
-//! shape. Nothing here allocates.
+//! shape; and, as document 02 asks, time stamps and their difference. Nothing here
+//! allocates.
 #![forbid(unsafe_code)]
 
 mod copy;
@@ -19,6 +20,7 @@ mod reverse;
 mod rows;
 mod search;
 mod shape;
+mod stamp;
 mod tour;
 mod walk;
 
@@ -26,6 +28,7 @@ pub use data::{MOST_DATA, check_data};
 pub use endian::{from_little_endian, to_little_endian};
 pub use path::{Part, Value, read_value, view};
 pub use record::read_record;
+pub use stamp::{Difference, Stamp, stamp_difference};
 
 use normal::Starts;
 use walk::{Refusal, Visitor};

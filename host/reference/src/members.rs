@@ -82,7 +82,8 @@ pub(crate) struct Members<'a> {
 }
 
 impl<'a> Members<'a> {
-    /// Whether these are members of a cluster, and not the element of an array.
+    /// Whether these are members of a cluster, and not what an array or a time stamp
+    /// holds.
     #[inline(always)]
     pub(crate) fn of_cluster(self) -> bool {
         self.rows.code(0) == 0x50

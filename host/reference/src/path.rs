@@ -29,9 +29,9 @@ pub struct Value {
     pub bits: u64,
 }
 
-/// Finds a part of the data: each step is a member number in a cluster or a flat
-/// element number in an array. Accepted: the place is 0. Refused: 1 to 12 with
-/// input 1, 20 to 25 with input 3, or 30 with input 4.
+/// Finds a part of the data: each step is a member number in a cluster, a flat
+/// element number in an array or 0 in a time stamp. Accepted: the place is 0.
+/// Refused: 1 to 12 with input 1, 20 to 25 with input 3, or 30 with input 4.
 pub fn view(descriptor: &[u8], data: &[u8], path: &[u32]) -> Part {
     let found = ask(descriptor, |rows| {
         judge_data(rows, data, Big)?;
@@ -110,6 +110,7 @@ fn follow(rows: Rows, data: &[u8], path: &[u32]) -> Result<Spot, Answer> {
         let part = match rows.code(spot.row) {
             0x40 => element(rows, data, spot, step),
             0x50 => member(rows, data, spot, step),
+            0x54 => held(spot, step),
             _ => None,
         };
         spot = part.ok_or(refused(Refusal { number: 30, place }, 4))?;
@@ -127,6 +128,12 @@ fn member(rows: Rows, data: &[u8], spot: Spot, step: u32) -> Option<Spot> {
         ..spot
     };
     Some((0..step).fold(first, |member, _| behind(rows, data, member)))
+}
+
+/// What the time stamp at a spot holds: its one part, with the same data.
+fn held(spot: Spot, step: u32) -> Option<Spot> {
+    let row = spot.row + 1;
+    (step == 0).then_some(Spot { row, ..spot })
 }
 
 /// An element of the array at a spot.
@@ -163,7 +170,7 @@ fn behind(rows: Rows, data: &[u8], spot: Spot) -> Spot {
     }
 }
 
-/// The same for a string, an array or a cluster.
+/// The same for a string, an array, a cluster or a time stamp.
 #[inline(never)]
 fn behind_parts(rows: Rows, data: &[u8], spot: Spot) -> Spot {
     let row = rows.behind(spot.row);

@@ -1,6 +1,6 @@
 //! An array's element turned into the steps of a walk over its data, so that
-//! many elements are walked in little time. Clusters leave no trace, since their
-//! members simply follow each other, and neighbouring scalars are joined.
+//! many elements are walked in little time. Clusters and time stamps leave no trace,
+//! since what they hold simply follows, and neighbouring scalars are joined.
 
 use std::ops::Range;
 

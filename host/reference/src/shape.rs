@@ -9,7 +9,7 @@ pub(crate) enum Act {
     Limited,
     Text,
     Array,
-    /// Nothing: its members follow.
+    /// Nothing, as for a time stamp: what it holds follows.
     Cluster,
 }
 

@@ -39,7 +39,7 @@ struct Parent {
     row: u16,
     /// Children not yet read to their end.
     left: u16,
-    array: bool,
+    code: u8,
 }
 
 impl Parent {
@@ -49,7 +49,7 @@ impl Parent {
         end: 0,
         row: 0,
         left: 0,
-        array: false,
+        code: 0,
     };
 
     /// The lent bytes, which hold one descriptor.
@@ -92,11 +92,11 @@ pub(crate) fn walk<V: Visitor>(bytes: &[u8], visitor: &mut V) -> Result<usize, R
     loop {
         let inside = &bytes[..usize::from(parent.end)];
         let header = read_header(inside, start)?;
-        check_standing(&header, start, depth, index, parent.array)?;
+        check_standing(&header, start, depth, index, parent.code)?;
         let own = &inside[..start + usize::from(header.size)];
         let body = read_body(header.kind, own, start)?;
         let mut row = row_of(&header, start, depth, body.count);
-        if let Kind::Array | Kind::Cluster = header.kind {
+        if let Kind::Array | Kind::Cluster | Kind::Stamp = header.kind {
             visitor.row(index, row);
             outer[depth - 1] = replace(&mut parent, parent_of(&row, index));
             depth += 1;
@@ -155,7 +155,7 @@ fn check_standing(
     start: usize,
     depth: usize,
     index: usize,
-    in_array: bool,
+    parent: u8,
 ) -> Result<(), Refusal> {
     if depth > MOST_DEPTH {
         return refuse(6, start);
@@ -163,14 +163,14 @@ fn check_standing(
     if index >= MOST_ROWS {
         return refuse(7, start);
     }
-    if in_array && header.kind == Kind::Array {
+    if parent == 0x40 && header.kind == Kind::Array {
         return refuse(10, start);
     }
     Ok(())
 }
 
-/// Refusals 8 to 10 of a body; `own` ends where the descriptor does. Most have
-/// none, and the rest stay out of the walk's loop to keep it small.
+/// Refusals 8 to 10 of a body, and 5 for a subtype; `own` ends where the descriptor
+/// does. Most have none, and the rest stay out of the walk's loop to keep it small.
 #[inline(always)]
 fn read_body(kind: Kind, own: &[u8], start: usize) -> Result<Body, Refusal> {
     if kind == Kind::Plain {
@@ -182,7 +182,7 @@ fn read_body(kind: Kind, own: &[u8], start: usize) -> Result<Body, Refusal> {
     read_long_body(kind, own, start)
 }
 
-/// The children of an array or cluster are left to the walk.
+/// What an array, a cluster or a time stamp holds is left to the walk.
 #[inline(never)]
 fn read_long_body(kind: Kind, own: &[u8], start: usize) -> Result<Body, Refusal> {
     let behind_header = &own[start + 4..];
@@ -193,6 +193,7 @@ fn read_long_body(kind: Kind, own: &[u8], start: usize) -> Result<Body, Refusal>
         Kind::Text => text(behind_header),
         Kind::Array => array(behind_header),
         Kind::Cluster => counted(behind_header, 1, u16::MAX).map(|(count, _)| (2, count)),
+        Kind::Stamp => subtype(behind_header),
     };
     match read {
         Ok((length, count)) => Ok(Body {
@@ -267,6 +268,29 @@ fn array(body: &[u8]) -> Result<(usize, u16), u32> {
     Ok((2 + words.len(), count))
 }
 
+/// The length of a time stamp's subtype word, which stands where others have a
+/// count. Another subtype is a type that is not carried.
+fn subtype(body: &[u8]) -> Result<(usize, u16), u32> {
+    match body.first_chunk::<2>() {
+        None => Err(8),
+        Some(&[0, 6]) => Ok((2, 0)),
+        Some(_) => Err(5),
+    }
+}
+
+/// Whether this accepted descriptor, reserved bytes apart, is what a time stamp
+/// holds: a cluster of the four halves of its two numbers, all without names.
+fn in_stamp(held: &[u8]) -> bool {
+    let Some(([0, 0x16, _, 0x50, 0, 4], members)) = held.split_first_chunk() else {
+        return false;
+    };
+    let (members, _) = members.as_chunks();
+    matches!(
+        members,
+        [[0, 4, _, 3], [0, 4, _, 3], [0, 4, _, 7], [0, 4, _, 7]]
+    )
+}
+
 /// What is left of a descriptor from `at` to its end: nothing or a name, else
 /// 11 at `start`.
 #[inline(always)]
@@ -293,7 +317,8 @@ fn read_name(own: &[u8], at: usize, start: usize) -> Result<Name, Refusal> {
     })
 }
 
-/// Reads the name behind a parent's last child. Returns the parent's end.
+/// Judges what a time stamp holds, then reads the name behind a parent's last child.
+/// Returns the parent's end.
 #[inline(always)]
 fn close<V: Visitor>(
     bytes: &[u8],
@@ -302,7 +327,11 @@ fn close<V: Visitor>(
     visitor: &mut V,
 ) -> Result<usize, Refusal> {
     let own = &bytes[..usize::from(parent.end)];
-    let name = read_name(own, at, usize::from(parent.start))?;
+    let start = usize::from(parent.start);
+    if parent.code == 0x54 && !in_stamp(&own[start + 6..at]) {
+        return refuse(10, start);
+    }
+    let name = read_name(own, at, start)?;
     visitor.name(usize::from(parent.row), name.place, name.length);
     Ok(own.len())
 }
@@ -328,15 +357,15 @@ fn row_of(header: &Header, start: usize, depth: usize, count: u16) -> Row {
     }
 }
 
-/// An array waits for one element, a cluster for as many members as it counts.
+/// An array waits for one element, a time stamp for its cluster, a cluster for as
+/// many members as it counts.
 #[inline(always)]
 fn parent_of(row: &Row, index: usize) -> Parent {
-    let array = row.code == 0x40;
     Parent {
         start: row.start,
         end: row.start + row.size,
         row: index as u16,
-        left: if array { 1 } else { row.count },
-        array,
+        left: if row.code == 0x50 { row.count } else { 1 },
+        code: row.code as u8,
     }
 }

@@ -84,6 +84,7 @@ fn any_path(of: &Type, random: &mut Random, sizes: usize) -> Vec<u32> {
                 (member, &members[member])
             }
             Type::Array { element, .. } => (random.below(sizes), &**element),
+            Type::Stamp(cluster) => (0, &**cluster),
             Type::Scalar { .. } | Type::Text => break,
         };
         path.push(parts as u32);

@@ -1,6 +1,7 @@
 //! Each refusal number of the data questions, the limits, every code at its edge
 //! values, and paths to each kind of part.
 
+#[allow(dead_code, reason = "each test program uses a part of it")]
 mod build;
 
 use build::{answer, array, cluster, enumeration, plain, quantity, text};

@@ -1,6 +1,10 @@
 //! The cases that document 01 lists as checked by hand, and the worked examples
 //! of source document 004 under carried codes.
 
+#[allow(dead_code, reason = "each test program uses a part of it")]
+mod build;
+
+use build::answer;
 use reference::{Answer, Row, Value, check_data, check_descriptor, compare, normal_form};
 use reference::{from_little_endian, read_record, read_value, to_little_endian, view};
 
@@ -13,32 +17,10 @@ fn bytes(text: &str) -> Vec<u8> {
         .collect()
 }
 
-fn answer(number: u32, input: u32, place: u32) -> Answer {
-    Answer {
-        number,
-        input,
-        place,
-    }
-}
-
 /// Checks that the descriptor is accepted with exactly these rows.
+#[track_caller]
 fn accepted(text: &str, rows: &[[u16; 7]]) {
-    let checked = check_descriptor(&bytes(text));
-    assert_eq!(checked.answer, answer(0, 0, rows.len() as u32), "{text}");
-    for (index, row) in checked.rows.iter().enumerate() {
-        let [code, start, size, depth, count, name_place, name_length] =
-            rows.get(index).copied().unwrap_or_default();
-        let stated = Row {
-            code,
-            start,
-            size,
-            depth,
-            count,
-            name_place,
-            name_length,
-        };
-        assert_eq!(*row, stated, "{text}, row {index}");
-    }
+    build::accepted(&bytes(text), rows);
 }
 
 /// Checks that every question refuses the descriptor with this number and place.

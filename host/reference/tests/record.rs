@@ -1,6 +1,7 @@
 //! The record in a reader's shape: each refusal with its place, its input and its
 //! order; members moved, added and dropped; and the faults that lost blanks.
 
+#[allow(dead_code, reason = "each test program uses a part of it")]
 mod build;
 
 use build::{answer, array, cluster, enumeration, plain, quantity, text};

@@ -67,7 +67,7 @@ fn number_4_size() {
 
 #[test]
 fn number_5_code() {
-    for code in [0x00, 0x0F, 0x14, 0x18, 0x1F, 0x20, 0x32, 0x53, 0x54, 0xFF] {
+    for code in [0x00, 0x0F, 0x14, 0x18, 0x1F, 0x20, 0x32, 0x53, 0x55, 0xFF] {
         assert_eq!(judge(&descriptor(4, code, &[])), (5, 0), "{code:02X}");
     }
     assert_eq!(judge(&descriptor(5, 0x00, &[0])), (4, 0));
@@ -97,7 +97,7 @@ fn number_6_comes_before_7() {
 
 #[test]
 fn number_8_body() {
-    for code in [0x15, 0x19, 0x30, 0x40, 0x50] {
+    for code in [0x15, 0x19, 0x30, 0x40, 0x50, 0x54] {
         assert_eq!(judge(&descriptor(4, code, &[])), (8, 0), "{code:02X}");
     }
     assert_eq!(judge(&descriptor(6, 0x30, &[0xFF, 0xFF])), (8, 0));

@@ -6,7 +6,7 @@ use mathlib.Core.List.{List, [], _∷_, _++_}
 use Prim.Native.Nat.{ℕ, zero, suc, _+_, _*_, _<_, _≤_}
 use lib.Dec.{eqb}
 use lib.ListN.{length}
-use Rattle.descriptor.specs.Tree.{Fields, empty, items, pairs, text, dimensions, members, Tree, node, Forest, nil, cons}
+use Rattle.descriptor.specs.Tree.{Fields, empty, items, pairs, text, dimensions, members, subtype, Tree, node, Forest, nil, cons}
 use Rattle.flattened.specs.inner.Extent.{extentOf}
 use Rattle.flattened.specs.declared.extent.Extent.the-variants.{Fixed}
 use Rattle.byteorder.specs.Reversal.{numberCount, numberWidth}
@@ -25,6 +25,7 @@ numbersFields c (pairs ps) inside = copies (numberCount c) (numberWidth c)
 numbersFields c text inside = []
 numbersFields c (dimensions k) inside = []
 numbersFields c (members k) inside = inside
+numbersFields c subtype inside = inside
 
 unfoldable mutual
   pub numbersIn : Tree → List ℕ

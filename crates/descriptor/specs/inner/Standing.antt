@@ -7,7 +7,7 @@ use Prim.Native.Nat.{ℕ, _+_, _<_}
 use lib.ListN.{length}
 use Rattle.descriptor.specs.Limits.{depthLimit}
 use Rattle.descriptor.specs.Header.{bodyAt}
-use Rattle.descriptor.specs.Tree.{Fields, empty, items, pairs, text, dimensions, members, Tree, node, Forest, nil, countOf, childCount, insideAt}
+use Rattle.descriptor.specs.Tree.{Fields, empty, items, pairs, text, dimensions, members, subtype, Tree, node, Forest, nil, countOf, childCount, insideAt}
 use Rattle.descriptor.specs.Outcome.{Outcome, refused, read}
 use Rattle.descriptor.specs.Check.{membersAt, treeAt}
 use Rattle.descriptor.specs.inner.Promises.{addressable}
@@ -49,6 +49,7 @@ contentsStart p (pairs ps) = insideAt p (pairs ps)
 contentsStart p text = insideAt p text
 contentsStart p (dimensions k) = insideAt p (dimensions k)
 contentsStart p (members k) = insideAt p (members k)
+contentsStart p subtype = insideAt p subtype
 
 -- nothing inside, and nothing counted
 abbrev pub leafInside : ℕ → Inside

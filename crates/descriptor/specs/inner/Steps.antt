@@ -2,7 +2,7 @@
 use mathlib.Core.Bool.{Bool, true, false, cond}
 use mathlib.Core.List.{List}
 use Prim.Native.Nat.{ℕ, _+_}
-use Rattle.descriptor.specs.Codes.{Kind, plain, enumeration, quantity, string, array, cluster, unknown}
+use Rattle.descriptor.specs.Codes.{Kind, plain, enumeration, quantity, string, array, cluster, stamp, unknown}
 use Rattle.descriptor.specs.Tree.{Fields, countOf, childCount}
 use Rattle.descriptor.specs.Outcome.{Outcome, refused, read, andThen}
 use Rattle.descriptor.specs.Check.{Header, runAt, judged, baseFits, wordFits}
@@ -19,7 +19,30 @@ kindIs quantity = kinds.Quantity
 kindIs string = kinds.Text
 kindIs array = kinds.Array
 kindIs cluster = kinds.Cluster
+kindIs stamp = kinds.Stamp
 kindIs unknown = kinds.Unknown
+
+-- whether a body of the kind is items
+abbrev pub isEnumeration : Kind → Bool
+isEnumeration plain = false
+isEnumeration enumeration = true
+isEnumeration quantity = false
+isEnumeration string = false
+isEnumeration array = false
+isEnumeration cluster = false
+isEnumeration stamp = false
+isEnumeration unknown = false
+
+-- whether the data of the kind is that of the descriptors inside, one after another: a cluster's and a time stamp's
+abbrev pub isCompound : Kind → Bool
+isCompound plain = false
+isCompound enumeration = false
+isCompound quantity = false
+isCompound string = false
+isCompound array = false
+isCompound cluster = true
+isCompound stamp = true
+isCompound unknown = false
 
 -- the test of an entry of four bytes at a place: a unit pair's base index, or a fixed word
 unfoldable pub entryFits : List ℕ → Bool → ℕ → Bool

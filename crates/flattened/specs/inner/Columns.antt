@@ -5,7 +5,7 @@ use mathlib.Core.Bool.{Bool, true}
 use mathlib.Core.List.{List}
 use Prim.Native.Nat.{ℕ, zero, suc, _+_, _*_, _≤_, _<_}
 use lib.ListN.{length}
-use Rattle.descriptor.specs.Tree.{Fields, empty, items, pairs, text, dimensions, members, Tree, node, Forest, nil, cons}
+use Rattle.descriptor.specs.Tree.{Fields, empty, items, pairs, text, dimensions, members, subtype, Tree, node, Forest, nil, cons}
 use Rattle.descriptor.specs.Width.{widthOf}
 use Rattle.flattened.specs.Order.{Order, numberAt}
 use Rattle.flattened.specs.inner.Extent.{ruleOf, keeps, least, tokensIn, extentOf}
@@ -60,6 +60,7 @@ module _ (o : Order) (s : List ℕ) where
   KeptFields c text at inside = Unit {0}
   KeptFields c (dimensions k) at inside = Unit {0}
   KeptFields c (members k) at inside = inside
+  KeptFields c subtype at inside = inside
 
   unfoldable mutual
     -- each judged number of the type's value at `at` keeps its rule

@@ -4,7 +4,7 @@ use Prim.Native.Nat.{ℕ, _+_}
 use lib.Dec.{ltb, eqb}
 use lib.ListN.{length}
 use Rattle.descriptor.specs.Codes.{booleanCode}
-use Rattle.descriptor.specs.Tree.{Fields, empty, items, pairs, text, dimensions, members, Tree, node, Forest, nil, cons}
+use Rattle.descriptor.specs.Tree.{Fields, empty, items, pairs, text, dimensions, members, subtype, Tree, node, Forest, nil, cons}
 use Rattle.descriptor.specs.Width.{widthOf}
 use Rattle.flattened.specs.declared.extent.Rule.{Rule}
 use Rattle.flattened.specs.declared.extent.Rule.the-variants.{Any, Below}
@@ -19,6 +19,7 @@ isScalar (pairs ps) = true
 isScalar text = false
 isScalar (dimensions k) = false
 isScalar (members k) = false
+isScalar subtype = false
 
 -- "An enumeration's number is below its item count (H). A Boolean's byte is 0 for false or 1 for true."
 unfoldable pub ruleOf : ℕ → Fields → Rule
@@ -28,6 +29,7 @@ ruleOf c (pairs ps) = cond (eqb c booleanCode) (Below 2 24) Any
 ruleOf c text = cond (eqb c booleanCode) (Below 2 24) Any
 ruleOf c (dimensions k) = cond (eqb c booleanCode) (Below 2 24) Any
 ruleOf c (members k) = cond (eqb c booleanCode) (Below 2 24) Any
+ruleOf c subtype = cond (eqb c booleanCode) (Below 2 24) Any
 
 unfoldable pub typeRule : Tree → Rule
 typeRule (node c b f m) = ruleOf c b
@@ -77,6 +79,7 @@ extentFields c (pairs ps) inside = Fixed (widthOf c) 1 (judges (ruleOf c (pairs 
 extentFields c text inside = Around 0 0 1 false
 extentFields c (dimensions k) inside = Varies
 extentFields c (members k) inside = inside
+extentFields c subtype inside = inside
 
 unfoldable mutual
   pub extentOf : Tree → Extent

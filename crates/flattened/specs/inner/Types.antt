@@ -11,7 +11,7 @@ use Rattle.descriptor.specs.Codes as codes
 use Rattle.descriptor.specs.Outcome.{Outcome, refused, read}
 use Rattle.descriptor.specs.inner.Promises.{addressable}
 use Rattle.descriptor.specs.inner.Standing.{standing, standingRow, isRead, forestOf, Stands}
-use Rattle.descriptor.specs.Tree.{unnamed, Fields, empty, items, pairs, text, dimensions, members, Tree, node, Forest, nil, cons, forestLength, height, forestHeight}
+use Rattle.descriptor.specs.Tree.{unnamed, Fields, empty, items, pairs, text, dimensions, members, subtype, Tree, node, Forest, nil, cons, forestLength, height, forestHeight}
 use Rattle.descriptor.specs.Width.{widthOf}
 
 -- the descriptor that was read
@@ -52,8 +52,9 @@ fieldsKind (pairs ps) = codes.quantity
 fieldsKind text = codes.string
 fieldsKind (dimensions k) = codes.array
 fieldsKind (members k) = codes.cluster
+fieldsKind subtype = codes.stamp
 
--- a scalar has a width, an array dimensions and an element, a cluster members: every token takes at least one byte
+-- a scalar has a width, an array dimensions and an element, a cluster members, a time stamp its part: every token takes at least one byte
 unfoldable pub SolidFields : ℕ → Fields → Forest → Type 0
 SolidFields c empty f = 0 < widthOf c
 SolidFields c (items xs) f = 0 < widthOf c
@@ -61,6 +62,7 @@ SolidFields c (pairs ps) f = 0 < widthOf c
 SolidFields c text f = Unit {0}
 SolidFields c (dimensions k) f = (1 ≤ k) × (1 ≤ forestLength f)
 SolidFields c (members k) f = 1 ≤ forestLength f
+SolidFields c subtype f = 1 ≤ forestLength f
 
 unfoldable mutual
   pub Solid : Tree → Type 0

@@ -4,7 +4,7 @@ use mathlib.Core.Bool.{Bool, true, false}
 use mathlib.Core.List.{List}
 use Prim.Native.Nat.{ℕ, suc, _≤_}
 use Rattle.descriptor.specs.Limits.{descriptorLimit, dataLimit}
-use Rattle.descriptor.specs.Tree.{Fields, empty, items, pairs, text, dimensions, members}
+use Rattle.descriptor.specs.Tree.{Fields, empty, items, pairs, text, dimensions, members, subtype}
 use Rattle.descriptor.specs.inner.Standing.{standing, fieldsOf, insideOf}
 use Rattle.descriptor.specs.inner.Steps.{counted}
 use Rattle.descriptor.specs.declared.inside.Inside.{Inside}
@@ -25,6 +25,7 @@ isMembers (pairs ps) = false
 isMembers text = false
 isMembers (dimensions d) = false
 isMembers (members k) = true
+isMembers subtype = false
 
 -- whether the top is a cluster
 abbrev pub isCluster : List ℕ → Bool

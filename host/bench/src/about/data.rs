@@ -16,6 +16,7 @@ fn checked() -> Vec<Record> {
         (elements::complex(), 4000),
         (elements::pairs(), 4000),
         (elements::mixed(), 4000),
+        (elements::stamps(), 4000),
         (elements::flags(), 60000),
         (elements::enumerations(), 30000),
         (elements::judged(), 5000),

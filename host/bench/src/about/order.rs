@@ -45,6 +45,7 @@ impl Direction {
             many(elements::complex(), 4000),
             many(elements::pairs(), 4000),
             many(elements::mixed(), 4000),
+            many(elements::stamps(), 4000),
             many(elements::enumerations(), 30000),
             many(elements::texts(), 4000),
             many(elements::two_texts(), 1500),

@@ -1,8 +1,8 @@
 //! The descriptors that are timed, and how descriptors are put together.
 
-/// Those with all kinds of rows: 2, a bath rig's 14, all 256, and three that are
+/// Those with all kinds of rows: 2, a bath rig's 14, all 256, and four that are
 /// long or deep in one way.
-pub fn all() -> [(&'static str, Vec<u8>); 6] {
+pub fn all() -> [(&'static str, Vec<u8>); 7] {
     [
         ("2 rows", array("", number(0x0A, ""))),
         ("14 rows", rig()),
@@ -10,6 +10,7 @@ pub fn all() -> [(&'static str, Vec<u8>); 6] {
         ("clusters eight deep", deepest()),
         ("an enumeration of 250 items", items()),
         ("40 quantities of nine pairs", quantities()),
+        ("42 time stamps", stamps()),
     ]
 }
 
@@ -50,6 +51,12 @@ pub fn text(name: &str) -> Vec<u8> {
 pub fn cluster(name: &str, members: &[Vec<u8>]) -> Vec<u8> {
     let count = (members.len() as u16).to_be_bytes();
     descriptor(0x50, &count, name, members)
+}
+
+/// A time stamp.
+pub fn stamp(name: &str) -> Vec<u8> {
+    let integers = [0x03, 0x03, 0x07, 0x07].map(|code| number(code, ""));
+    descriptor(0x54, &[0, 6], name, &[cluster("", &integers)])
 }
 
 /// A 16-bit enumeration of three items.
@@ -111,5 +118,11 @@ fn quantities() -> Vec<u8> {
     let pairs = (0..9).flat_map(|base| [0, base, 0xFF, 0xFE]);
     let body: Vec<u8> = [0, 9].into_iter().chain(pairs).collect();
     let members = (0..40).map(|index| descriptor(0x1A, &body, &format!("q{index:02}"), &[]));
+    cluster("", &members.collect::<Vec<_>>())
+}
+
+/// As many time stamps as there may be rows for.
+fn stamps() -> Vec<u8> {
+    let members = (0..42).map(|index| stamp(&format!("t{index:02}")));
     cluster("", &members.collect::<Vec<_>>())
 }

@@ -1,6 +1,6 @@
 //! The elements of the arrays that are timed.
 
-use crate::inputs::descriptors::{array, cluster, number, states, text};
+use crate::inputs::descriptors::{array, cluster, number, stamp, states, text};
 
 /// What an array is made of.
 pub struct Element {
@@ -58,6 +58,13 @@ pub fn mixed() -> Element {
     ];
     plain("clusters of four widths", cluster("", &members), |index| {
         [vec![0, 0, 0, 9], double(index), vec![0, 7, 0, 8]].concat()
+    })
+}
+
+pub fn stamps() -> Element {
+    plain("time stamps", stamp(""), |index| {
+        let seconds = (0xE206_CAA6 + index as u64).to_be_bytes();
+        [seconds, (3_u64 << 62).to_be_bytes()].concat()
     })
 }
 

@@ -37,9 +37,9 @@ impl<'a> Data<'a> {
     }
 
     /// The part that a path leads to, length and size words included. A step is a
-    /// member's number in a cluster or a flat element's number in an array, from 0;
-    /// no step is the whole data. Refused: 30 with input 4 where a step leads
-    /// nowhere.
+    /// member's number in a cluster or a flat element's number in an array, from 0, or
+    /// 0 in a time stamp; no step is the whole data. Refused: 30 with input 4 where a
+    /// step leads nowhere.
     ///
     /// ```
     /// # use kerbcanopy::accepted::Descriptor;

@@ -20,8 +20,8 @@ use crate::{Answer, meaning};
 /// ```
 #[derive(Clone, Copy, Debug, PartialEq, Eq, Hash)]
 pub struct Refusal {
-    /// Why: 1 to 12 for a descriptor, 20 to 25 for data, 30 and 31 for a path, 40
-    /// to 44 for a record in a reader's shape, 50 for room.
+    /// Why: 1 to 12 for a descriptor, 20 to 25 for data, 30 and 31 for a path, 32
+    /// for a difference, 40 to 44 for a record in a reader's shape, 50 for room.
     pub number: u32,
     /// What is at fault: 1 the first or the writer's descriptor, 2 the second or
     /// the reader's, 3 the data, 4 the request.

@@ -1,5 +1,7 @@
 //! The questions about data under a descriptor.
 
+use std::ffi::OsString;
+
 use kerbcanopy::Answer;
 
 use crate::command::Request;
@@ -15,8 +17,11 @@ use crate::tokens::Order;
 use crate::value as values;
 use crate::words::counted;
 
+/// A descriptor, and data under it.
+pub type Record<'a> = (&'a Input, &'a Input);
+
 /// The descriptor and the data.
-pub fn inputs<'a>(request: &'a Request) -> (&'a Input, &'a Input) {
+pub fn inputs<'a>(request: &'a Request) -> Record<'a> {
     match &request.files[..] {
         [descriptor, data] => (descriptor, data),
         _ => unreachable!("questions about data have two files"),
@@ -45,11 +50,13 @@ pub fn verdict(data: &Input, answer: Answer) -> String {
 
 /// The number at the end of a path.
 pub fn value(request: &Request) -> Result<Outcome, String> {
-    let (descriptor, data) = inputs(request);
-    let path = follow(request)?;
+    let record = inputs(request);
+    let path = follow(record, request.steps)?;
+    let (descriptor, data) = record;
     let read = kerbcanopy::read_value(&descriptor.bytes, &data.bytes, &path);
     if read.answer.number != 0 {
-        return Ok(not_followed(request, read.answer, &path));
+        let refusal = not_followed(record, request.steps, &path, read.answer);
+        return Ok(refusal.outcome(request.options.json));
     }
     Ok(Outcome::accepted(match request.options.json {
         true => answer_json(read.answer).with(values::json(&read)).line(),
@@ -59,11 +66,13 @@ pub fn value(request: &Request) -> Result<Outcome, String> {
 
 /// The bytes of a part, behind a comment that says where they stand.
 pub fn view(request: &Request) -> Result<Outcome, String> {
-    let (descriptor, data) = inputs(request);
-    let path = follow(request)?;
+    let record = inputs(request);
+    let path = follow(record, request.steps)?;
+    let (descriptor, data) = record;
     let part = kerbcanopy::view(&descriptor.bytes, &data.bytes, &path);
     if part.answer.number != 0 {
-        return Ok(not_followed(request, part.answer, &path));
+        let refusal = not_followed(record, request.steps, &path, part.answer);
+        return Ok(refusal.outcome(request.options.json));
     }
     let bytes = &data.bytes[part.start..part.start + part.length];
     if request.options.out.is_some() {
@@ -84,24 +93,28 @@ pub fn view(request: &Request) -> Result<Outcome, String> {
 
 /// The numbers of the steps. The bytes are judged before them, so a name that
 /// can't be found is told only where they are accepted.
-fn follow(request: &Request) -> Result<Vec<u32>, String> {
-    let (descriptor, data) = inputs(request);
+pub fn follow((descriptor, data): Record, steps: &[OsString]) -> Result<Vec<u32>, String> {
     let answer = kerbcanopy::check_data(&descriptor.bytes, &data.bytes);
     match Descriptor::of(&descriptor.bytes) {
-        Some(types) if answer.number == 0 => path::resolve(&types, request.steps)
+        Some(types) if answer.number == 0 => path::resolve(&types, steps)
             .map_err(|trouble| format!("{}: {trouble}", descriptor.name)),
         _ => Ok(Vec::new()),
     }
 }
 
-fn not_followed(request: &Request, answer: Answer, path: &[u32]) -> Outcome {
-    let (descriptor, data) = inputs(request);
+/// What is refused of a record or of the path in it.
+pub fn not_followed(
+    (descriptor, data): Record,
+    steps: &[OsString],
+    path: &[u32],
+    answer: Answer,
+) -> Refusal {
     let lent = Lent {
-        steps: request.steps,
+        steps,
         path,
         ..Lent::data(descriptor, data)
     };
-    Refusal::of(answer, &lent).outcome(request.options.json)
+    Refusal::of(answer, &lent)
 }
 
 /// The little-endian form.

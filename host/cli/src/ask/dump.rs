@@ -6,6 +6,7 @@ use crate::content::{self, ELEMENTS};
 use crate::descriptor::Descriptor;
 use crate::hexadecimal;
 use crate::json::Json;
+use crate::moment;
 use crate::outcome::Outcome;
 use crate::path;
 use crate::refusal::{Lent, Refusal, answer_json};
@@ -74,6 +75,10 @@ fn says(types: &Descriptor, data: &[u8], part: &Part, all: bool) -> String {
         0x30 => format!(" = {}", content::characters(&bytes[4..], all)),
         0x40 => format!(", {}", content::extent(&part.sizes)),
         0x50 => String::new(),
+        0x54 => match moment::of(types.own(part.row), bytes) {
+            Some(stamp) => format!(" = {}", moment::text(stamp)),
+            None => String::new(),
+        },
         _ => format!(" = {}", content::number(types, part.row, bytes)),
     };
     format!(
@@ -114,6 +119,10 @@ fn found_json(types: &Descriptor, data: &[u8], found: &Found) -> Json {
             place.with([("sizes", Json::list(sizes))])
         }
         0x50 => place,
+        0x54 => {
+            let stamp = moment::of(types.own(part.row), bytes);
+            place.with(stamp.into_iter().flat_map(moment::json))
+        }
         _ => place.with(scalar_json(types, part.row, bytes)),
     }
 }

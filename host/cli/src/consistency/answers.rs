@@ -5,7 +5,8 @@ use std::ffi::OsString;
 
 use super::grow::{self, Random};
 use super::parsed::Json;
-use super::{ROUNDS, asked, damage};
+use super::{ROUNDS, asked, damage, input};
+use crate::arguments::Options;
 use crate::ask;
 use crate::command::Request;
 use crate::descriptor::Descriptor;
@@ -26,6 +27,23 @@ fn answers(question: Question, files: &[&[u8]], steps: &[OsString]) -> Json {
     };
     assert_eq!(status, expected, "{json:?}");
     json
+}
+
+/// Two records, each judged in turn; a path may lead to something else than a stamp.
+fn differs(files: &[&[u8]], paths: &[OsString]) {
+    let options = Options::default();
+    let outcome = ask::difference(&Request {
+        files: files.iter().map(|bytes| input(bytes)).collect(),
+        steps: paths,
+        options: &options,
+    });
+    match outcome {
+        Err(trouble) => assert!(trouble.contains("leads to no time stamp"), "{trouble}"),
+        Ok(outcome) => assert_eq!(
+            outcome.status == Status::Refused,
+            outcome.answer.is_empty() && outcome.complaint.contains(": refused with ")
+        ),
+    }
 }
 
 /// The fields of an explanation are all the bytes of its files, as far as it goes.
@@ -69,6 +87,11 @@ fn every_question_answers_whatever_it_is_lent() {
             explains(&[one, other]);
             answers(ask::read, &[one, &types, other], &[]);
             answers(ask::read, &[&types, one, &data], &[]);
+        }
+        let paths = [0, 1].map(|_| [step(&mut random), step(&mut random)]);
+        let paths = paths.map(|steps: [OsString; 2]| steps.join(" ".as_ref()));
+        for files in [[&types, &data, &types, &cut], [&types, &data, &bent, &data]] {
+            differs(&files.map(Vec::as_slice), &paths);
         }
         answers(ask::check, &[&bent], &[]);
         answers(ask::normal, &[&bent], &[]);

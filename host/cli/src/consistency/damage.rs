@@ -5,6 +5,10 @@ use crate::tokens::{Order, Part};
 
 use super::grow::Random;
 
+/// Bytes to be changed: how far behind a descriptor's start each stands, and to what;
+/// and the number that refuses it then.
+type Change = (&'static [(usize, u8)], u32);
+
 /// Copies of a descriptor that are refused in this row, with the numbers.
 pub fn of_row(types: &Descriptor, row: usize) -> Vec<(Vec<u8>, u32)> {
     let of = &types.rows[row];
@@ -25,24 +29,32 @@ pub fn of_row(types: &Descriptor, row: usize) -> Vec<(Vec<u8>, u32)> {
         (changed(&[(0, 0x7F), (1, 0xFE)]), 4),
         (changed(&[(3, 0x32)]), 5),
     ];
-    match of.code {
-        0x15..=0x17 | 0x50 => damaged.push((changed(&[(4, 0), (5, 0)]), 9)),
-        0x19..=0x1E => {
-            damaged.push((changed(&[(4, 0), (5, 10)]), 9));
-            damaged.push((changed(&[(7, 9)]), 10));
-        }
-        0x40 => {
-            damaged.push((changed(&[(4, 0), (5, 5)]), 9));
-            damaged.push((changed(&[(7, 0)]), 10));
-        }
-        0x30 => damaged.push((changed(&[(4, 0x7F)]), 10)),
-        _ => {}
+    for (changes, number) in body_changes(of.code) {
+        damaged.push((changed(changes), *number));
     }
     if types.name(row).is_some() {
         let length = usize::from(of.name_place) - 1 - start;
         damaged.push((changed(&[(length, 0xFF)]), 11));
     }
     damaged
+}
+
+/// What is changed behind the header of a descriptor of this code.
+fn body_changes(code: u16) -> &'static [Change] {
+    match code {
+        0x15..=0x17 | 0x50 => &[(&[(4, 0), (5, 0)], 9)],
+        0x19..=0x1E => &[(&[(4, 0), (5, 10)], 9), (&[(7, 9)], 10)],
+        0x30 => &[(&[(4, 0x7F)], 10)],
+        0x40 => &[(&[(4, 0), (5, 5)], 9), (&[(7, 0)], 10)],
+        // The subtype; other integers inside, or what is no integer.
+        0x54 => &[
+            (&[(5, 7)], 5),
+            (&[(15, 7)], 10),
+            (&[(27, 3)], 10),
+            (&[(19, 0x0A)], 10),
+        ],
+        _ => &[],
+    }
 }
 
 /// How many bytes the part's first piece has, which is refused as a whole.
@@ -53,8 +65,8 @@ fn piece(types: &Descriptor, part: &Part) -> usize {
     }
 }
 
-/// Copies of data that are refused in this part, with the numbers. A cluster has no
-/// piece of its own.
+/// Copies of data that are refused in this part, with the numbers. A cluster and a
+/// time stamp have no piece of their own.
 pub fn of_part(
     random: &mut Random,
     types: &Descriptor,
@@ -64,7 +76,7 @@ pub fn of_part(
 ) -> Vec<(Vec<u8>, u32)> {
     let start = part.bytes.start;
     let code = types.rows[part.row].code;
-    if code == 0x50 {
+    if matches!(code, 0x50 | 0x54) {
         return Vec::new();
     }
     let kept = start + random.below(piece(types, part));

@@ -29,6 +29,11 @@ impl Random {
         self.next() as u8
     }
 
+    /// A time stamp, in units of 2^-64 second.
+    pub fn stamp(&mut self) -> i128 {
+        (i128::from(self.next()) << 64 | i128::from(self.next())) >> self.below(90)
+    }
+
     fn bytes(&mut self, length: usize) -> Vec<u8> {
         (0..length).map(|_| self.byte()).collect()
     }
@@ -46,14 +51,28 @@ pub fn types(random: &mut Random) -> Vec<u8> {
 
 const PLAIN: [u8; 15] = [1, 2, 3, 4, 5, 6, 7, 8, 9, 10, 11, 12, 13, 14, 0x21];
 
+/// A time stamp's descriptor, without a name.
+pub const STAMP: &[u8] = b"\x00\x1C\x00\x54\x00\x06\x00\x16\x00\x50\x00\x04\
+    \x00\x04\x00\x03\x00\x04\x00\x03\x00\x04\x00\x07\x00\x04\x00\x07";
+
+/// What stands behind its code, any reserved bytes in it.
+fn stamp(random: &mut Random) -> Vec<u8> {
+    let mut body = STAMP[4..].to_vec();
+    for reserved in [4, 10, 14, 18, 22] {
+        body[reserved] = random.byte();
+    }
+    body
+}
+
 fn descriptor(random: &mut Random, depth: usize, in_array: bool) -> Vec<u8> {
-    let choices = if depth == 1 { 10 } else { 18 };
+    let choices = if depth == 1 { 10 } else { 20 };
     let (code, body) = match random.below(choices) {
         0..5 if depth < 6 => (0x50, cluster(random, depth)),
         5..8 if depth < 6 && !in_array => (0x40, array(random, depth)),
         8..10 => (0x15 + random.below(3) as u8, items(random)),
         10 | 11 => (0x19 + random.below(6) as u8, pairs(random)),
         12 | 13 => (0x30, vec![0xFF; 4]),
+        14 | 15 => (0x54, stamp(random)),
         _ => (PLAIN[random.below(PLAIN.len())], Vec::new()),
     };
     let mut bytes = vec![0, 0, random.byte(), code];
@@ -135,7 +154,7 @@ fn value(random: &mut Random, types: &Descriptor, row: usize, bytes: &mut Vec<u8
     // What is long already grows no further.
     let much = bytes.len() > 2000;
     match of.code {
-        0x50 => {
+        0x50 | 0x54 => {
             for member in types.inside(row) {
                 value(random, types, member, bytes);
             }

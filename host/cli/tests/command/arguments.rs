@@ -6,8 +6,18 @@ use std::os::unix::ffi::OsStringExt;
 use crate::common::descriptors::descriptor;
 use crate::common::{Folder, sample};
 
-const COMMANDS: [&str; 11] = [
-    "check", "compare", "normal", "data", "dump", "explain", "value", "view", "little", "big",
+const COMMANDS: [&str; 12] = [
+    "check",
+    "compare",
+    "normal",
+    "data",
+    "dump",
+    "explain",
+    "value",
+    "view",
+    "difference",
+    "little",
+    "big",
     "read",
 ];
 
@@ -17,6 +27,8 @@ fn rig(test: &str) -> Folder {
         "reader.hex",
         "data/rig.hex",
         "data/rig-little.hex",
+        "coat.hex",
+        "data/coat.hex",
     ];
     Folder::with_samples(test, &names)
 }
@@ -80,7 +92,7 @@ fn dashes_end_the_options() {
 }
 
 /// The words of every command, with `-` for each file in turn.
-const FED: [(&[&str], &str); 18] = [
+const FED: [(&[&str], &str); 22] = [
     (&["check", "-"], "rig.hex"),
     (&["compare", "-", "rig.hex"], "rig.hex"),
     (&["compare", "rig.hex", "-"], "rig.hex"),
@@ -93,6 +105,35 @@ const FED: [(&[&str], &str); 18] = [
     (&["explain", "rig.hex", "-"], "data-rig.hex"),
     (&["value", "rig.hex", "-", "id"], "data-rig.hex"),
     (&["view", "-", "data-rig.hex", "id"], "rig.hex"),
+    (
+        &["difference", "-", "data-coat.hex", "end", "start"],
+        "coat.hex",
+    ),
+    (&["difference", "coat.hex", "-", "1", "2"], "data-coat.hex"),
+    (
+        &[
+            "difference",
+            "coat.hex",
+            "-",
+            "1",
+            "coat.hex",
+            "data-coat.hex",
+            "2",
+        ],
+        "data-coat.hex",
+    ),
+    (
+        &[
+            "difference",
+            "coat.hex",
+            "data-coat.hex",
+            "1",
+            "-",
+            "data-coat.hex",
+            "2",
+        ],
+        "coat.hex",
+    ),
     (&["little", "rig.hex", "-"], "data-rig.hex"),
     (&["big", "-", "data-rig-little.hex"], "rig.hex"),
     (&["big", "rig.hex", "-"], "data-rig-little.hex"),
@@ -137,6 +178,8 @@ fn standard_input_is_read_once() {
         &["explain", "-", "-"],
         &["value", "-", "-"],
         &["view", "-", "-", "0"],
+        &["difference", "-", "-", "0", "0"],
+        &["difference", "a", "-", "-", "b", "-", "-"],
         &["little", "-", "-"],
         &["big", "-", "-"],
         &["read", "-", "rig.hex", "-"],
@@ -218,6 +261,45 @@ fn the_version_goes_to_standard_output() {
         folder.run(&[command, "--version"]).gives(&version);
         folder.run(&["-V", command, "missing"]).gives(&version);
     }
+}
+
+#[test]
+fn a_difference_has_one_record_or_two() {
+    let folder = rig("arguments-difference");
+    let see = "see kerbcanopy difference --help";
+    for (given, missing) in [(0, "DESCRIPTOR"), (1, "DATA"), (2, "PATH"), (3, "PATH")] {
+        folder
+            .run(&[vec!["difference"], vec!["a"; given]].concat())
+            .troubles(&format!("difference needs a {missing}; {see}"));
+    }
+    for option in ["--all", "--table", "--html"] {
+        folder
+            .run(&["difference", "a", "b", "0", "0", option])
+            .troubles(&format!("difference takes no {option}; {see}"));
+    }
+    let one = ["coat.hex", "data-coat.hex"];
+    let same = [&["difference"], &one[..], &["2", "1"]].concat();
+    let apart = [&["difference"], &one[..], &["2"], &one[..], &["1"]].concat();
+    folder.run(&apart).gives(folder.run(&same).text());
+}
+
+#[test]
+fn steps_of_a_path_that_stand_apart() {
+    let folder = rig("arguments-apart");
+    let hint = "a path of several steps is one word in quotes";
+    let see = "see kerbcanopy difference --help";
+    let run = |words: &[&str]| {
+        let one = ["difference", "coat.hex", "data-coat.hex"];
+        folder.run(&[&one[..], words].concat())
+    };
+    run(&["1", "0", "2"]).troubles(&format!("difference needs a PATH; {hint}; {see}"));
+    run(&["1", "0", "2", "0", "0"])
+        .troubles(&format!("difference can't take 0 as well; {hint}; {see}"));
+    let missing = "No such file or directory (os error 2)";
+    run(&["1", "0", "2", "0"]).troubles(&format!("0: {missing}; {hint}"));
+    // What is there, or stands where no step would, is no step.
+    run(&["1", "coat.hex", "2", "0"]).troubles(&format!("2: {missing}"));
+    run(&["1", ".", "data-coat.hex", "0"]).troubles(".: Is a directory (os error 21)");
 }
 
 /// Words that are no use of the command, and what is said of them.
@@ -304,6 +386,8 @@ fn each_command_has_as_many_files_as_it_needs() {
             "read" => (&["WRITER", "READER", "DATA"][..], 0, false),
             "explain" => (&["DESCRIPTOR", "DATA"][..], 1, false),
             "value" | "view" => (&["DESCRIPTOR", "DATA"][..], 0, true),
+            // Below, with the record that may be left out.
+            "difference" => continue,
             _ => (&["DESCRIPTOR", "DATA"][..], 0, false),
         };
         let see = format!("see kerbcanopy {command} --help");

@@ -2,7 +2,7 @@
 
 use crate::common::Folder;
 use crate::common::descriptors::{
-    array, cluster, descriptor, enumeration, named, quantity, string,
+    array, cluster, descriptor, enumeration, named, quantity, string, time_stamp,
 };
 
 #[test]
@@ -37,9 +37,9 @@ fn the_table_has_the_rows() {
 }
 
 /// What is said of a cluster with a member of every code.
-const EVERY_CODE: [&str; 31] = [
-    "all: accepted, 30 types",
-    "cluster of 27 members, 218 bytes at 0",
+const EVERY_CODE: [&str; 37] = [
+    "all: accepted, 36 types",
+    "cluster of 28 members, 246 bytes at 0",
     "signed 8-bit integer, 4 bytes at 6",
     "signed 16-bit integer, 4 bytes at 10",
     "signed 32-bit integer, 4 bytes at 14",
@@ -69,6 +69,12 @@ const EVERY_CODE: [&str; 31] = [
     "string, 8 bytes at 196",
     "cluster of 1 member, 14 bytes at 204",
     "string, 8 bytes at 210",
+    "time stamp, 28 bytes at 218",
+    "cluster of 4 members, 22 bytes at 224",
+    "signed 32-bit integer, 4 bytes at 230",
+    "signed 32-bit integer, 4 bytes at 234",
+    "unsigned 32-bit integer, 4 bytes at 238",
+    "unsigned 32-bit integer, 4 bytes at 242",
 ];
 
 #[test]
@@ -78,6 +84,7 @@ fn every_code_has_its_words() {
     members.extend((0x15..=0x17).map(|code| enumeration(code, &[b"a"])));
     members.extend((0x19..=0x1E).map(|code| quantity(code, &[(2, -1), (3, 1)])));
     members.extend([string(), array(2, &string()), cluster(&[string()])]);
+    members.push(time_stamp());
     let folder = Folder::new("check-codes");
     folder.put("all", &cluster(&members));
     let ran = folder.run(&["check", "all"]);

@@ -132,8 +132,8 @@ fn a_refused_descriptor_is_read_up_to_its_place() {
     6  0006  FF FF FF FF                dimension 0: any size
    10  000A [00]0E                        element: size 14
              ^                          refused with 10: a length or dimension is not FFFFFFFF, \
-         a unit's base is over 8, an enumeration's fill byte is not zero, or an array stands \
-         directly in an array
+         a unit's base is over 8, an enumeration's fill byte is not zero, an array stands \
+         directly in an array, or a time stamp holds anything but its cluster of four integers
    12  000C  00                           reserved
    13  000D  40                           code 40, array
    14  000E  00 01 FF FF FF FF 00 04      not read

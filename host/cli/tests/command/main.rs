@@ -19,5 +19,6 @@ mod page;
 mod record;
 mod refusals;
 mod replace;
+mod stamps;
 mod steps;
 mod streams;

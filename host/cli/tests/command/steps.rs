@@ -175,7 +175,7 @@ fn a_name_that_leads_to_no_member_is_trouble() {
 #[test]
 fn a_step_that_leads_nowhere_is_refused_before_the_name_behind_it() {
     let folder = odd("steps-nowhere");
-    let meaning = "the step leads nowhere: there is no such member or element";
+    let meaning = "the step leads nowhere: there is no such part";
     let run = |steps: &[&str], place: usize, within: &str, there: &str| {
         for command in ["value", "view"] {
             folder.run(&[&[command, "types", "data"], steps].concat()).refuses(&format!(

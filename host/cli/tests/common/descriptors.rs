@@ -48,6 +48,15 @@ pub fn cluster(members: &[Vec<u8>]) -> Vec<u8> {
     descriptor(0x50, &[counted(members.len()), members.concat()].concat())
 }
 
+/// A time stamp's one part.
+pub fn halves() -> Vec<u8> {
+    cluster(&[3, 3, 7, 7].map(|code| descriptor(code, &[])))
+}
+
+pub fn time_stamp() -> Vec<u8> {
+    descriptor(0x54, &[&[0, 6], &halves()[..]].concat())
+}
+
 fn counted(count: usize) -> Vec<u8> {
     (count as u16).to_be_bytes().to_vec()
 }

@@ -1,6 +1,8 @@
 //! Well-formed data for a tree, at random, with what the generator knows of it:
 //! both byte orders, the pieces, and some of the parts with their values.
 
+use std::slice;
+
 use super::both::Both;
 use super::scalar::{self, Value};
 use crate::random::Random;
@@ -64,6 +66,7 @@ pub fn least(tree: &Tree) -> usize {
         Body::Text => 4,
         Body::Array(dimensions, _) => 4 * usize::from(*dimensions),
         Body::Cluster(members) => members.iter().map(least).sum(),
+        Body::Stamp(_, held) => least(held),
     }
 }
 
@@ -114,6 +117,7 @@ impl Filler<'_> {
                 (self.array(usize::from(*dimensions), element), None)
             }
             Body::Cluster(members) => (self.members(members), None),
+            Body::Stamp(_, held) => (self.members(slice::from_ref(held)), None),
         };
         let room = self.filled.parts.len() < MOST_PARTS || self.path.is_empty();
         if self.noted && room {

@@ -122,6 +122,10 @@ fn text() -> Tree {
     Tree::unnamed(Body::Text)
 }
 
+fn stamp() -> Tree {
+    Tree::unnamed(Body::stamp())
+}
+
 fn cluster(members: Vec<Tree>) -> Tree {
     Tree::unnamed(Body::Cluster(members))
 }

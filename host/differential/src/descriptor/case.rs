@@ -189,7 +189,10 @@ fn wild_case(random: &mut Random) -> Case {
 /// A header that passes 2 to 5, a likely count, then likely and random words.
 fn headed(random: &mut Random) -> Vec<u8> {
     let length = 2 * random.between(2, 30);
-    let code = random.pick(&[0x03, 0x15, 0x17, 0x19, 0x1E, 0x21, 0x30, 0x40, 0x50, 0x50]);
+    let codes = [
+        0x03, 0x15, 0x17, 0x19, 0x1E, 0x21, 0x30, 0x40, 0x50, 0x50, 0x54,
+    ];
+    let code = random.pick(&codes);
     let mut bytes = vec![0, length as u8, random.byte(), code];
     while bytes.len() < length {
         let likely = [

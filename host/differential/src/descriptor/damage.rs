@@ -1,7 +1,9 @@
 //! Damaged copies of an encoded tree: the small faults of a bad cable and the
 //! well aimed ones of a wrong writer.
 
+use crate::grow::PLAIN;
 use crate::random::Random;
+use crate::stamp::SUBTYPES;
 use crate::tree::{Encoded, StatedRow};
 
 /// Damaged bytes, and the bytes that a read past their end would find.
@@ -63,32 +65,38 @@ fn cut(random: &mut Random, damaged: &mut Damaged) {
 }
 
 /// Codes next to those that are carried, and the last.
-const FOREIGN: [u8; 14] = [
-    0x00, 0x0F, 0x14, 0x18, 0x1F, 0x20, 0x22, 0x2F, 0x31, 0x3F, 0x41, 0x4F, 0x51, 0xFF,
+const FOREIGN: [u8; 16] = [
+    0x00, 0x0F, 0x14, 0x18, 0x1F, 0x20, 0x22, 0x2F, 0x31, 0x3F, 0x41, 0x4F, 0x51, 0x53, 0x55, 0xFF,
 ];
 
 /// Codes of every kind that is carried.
-const CARRIED: [u8; 6] = [0x03, 0x15, 0x19, 0x30, 0x40, 0x50];
+const CARRIED: [u8; 7] = [0x03, 0x15, 0x19, 0x30, 0x40, 0x50, 0x54];
 
 /// Sizes that are never right.
 const SIZES: [u16; 10] = [0, 1, 2, 3, 5, 0x7FFE, 0x7FFF, 0x8000, 0x8001, 0xFFFF];
 
-/// Counts at and past a code's limits, and such whose low bytes are within.
+/// Counts at and past a code's limits, and such whose low bytes are within; a time
+/// stamp has its subtype there.
 fn counts(code: u16) -> &'static [u16] {
     match code {
         0x19..=0x1E => &[0, 1, 9, 10, 11, 256, 265, 0xFFFF],
         0x40 => &[0, 1, 4, 5, 6, 256, 260, 0xFFFF],
+        0x54 => &SUBTYPES,
         _ => &[0, 1, 255, 256, 257, 0x7FFF, 0x8000, 0xFFFF],
     }
 }
 
 /// A change to one descriptor's size, code, count, body, fill byte, name length or
-/// last byte.
+/// last byte, or to a code inside it.
 fn aimed(random: &mut Random, bytes: &mut [u8], row: &StatedRow) {
     let [_, start, size, _, count, name_place, name_length] = row.map(usize::from);
     let change = random.pick(&[1, 2, 0xFE, 0xFF]);
     match random.below(12) {
         9.. if (0x15..=0x17).contains(&row[0]) => set_fill(random, bytes, row),
+        11 if row[0] == 0x54 => {
+            let integer = start + 12 + 4 * random.below(4);
+            set(bytes, integer + 3, random.pick(&PLAIN));
+        }
         0 => set(bytes, start + 1, (size as u8).wrapping_add(change)),
         1 => set(bytes, start, random.pick(&[0x7F, 0x80, 0xFF, 0x10])),
         2 => set_word(bytes, start, random.pick(&SIZES)),
@@ -165,7 +173,8 @@ fn shorten(random: &mut Random, bytes: &mut Vec<u8>, rows: &[StatedRow], row: &S
     bytes.drain(end - less..end);
 }
 
-/// An array or a cluster without what it holds, more often the last than another.
+/// An array, a cluster or a time stamp without what it holds, more often the last
+/// than another.
 fn empty(random: &mut Random, bytes: &mut Vec<u8>, rows: &[StatedRow]) {
     let parents: Vec<&StatedRow> = rows.iter().filter(|row| row[0] >= 0x40).collect();
     let Some(&last) = parents.last() else {

@@ -2,6 +2,7 @@
 //! first where two refusals would do. Each case states its answer.
 
 mod combined;
+mod stamps;
 
 use reference::Answer;
 
@@ -27,6 +28,7 @@ pub fn all() -> Vec<Limit> {
     members(&mut limits);
     strings(&mut limits);
     names(&mut limits);
+    stamps::add(&mut limits);
     combined::add(&mut limits);
     limits
 }
@@ -154,7 +156,9 @@ fn codes(limits: &mut Vec<Limit>) {
         let bytes = whole(code, &[]);
         match code {
             0x01..=0x0E | 0x21 => limits.accepted(what, bytes, 1),
-            0x15..=0x17 | 0x19..=0x1E | 0x30 | 0x40 | 0x50 => limits.refused(what, bytes, 8, 0),
+            0x15..=0x17 | 0x19..=0x1E | 0x30 | 0x40 | 0x50 | 0x54 => {
+                limits.refused(what, bytes, 8, 0)
+            }
             _ => limits.refused(what, bytes, 5, 0),
         }
     }
@@ -187,7 +191,7 @@ fn rows_and_depth(limits: &mut Vec<Limit>) {
         limits.refused(format!("depth {depth}"), bytes, 6, 48);
     }
     let mut foreign = nested(integer(), 9).normal_form().bytes;
-    foreign[51] = 0x54;
+    foreign[51] = 0x55;
     limits.refused("depth 9 of unknown code", foreign, 5, 48);
     let mut members = vec![integer(); 248];
     members.push(nested(integer(), 8));

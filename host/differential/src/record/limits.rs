@@ -6,7 +6,7 @@ use reference::Answer;
 
 use super::stated::Stated;
 use crate::answers::{reader as of_reader, refused};
-use crate::tree::{Body, Tree};
+use crate::tree::{Body, Tree, halves};
 
 /// A case with what document 01 gives.
 pub struct Limit {
@@ -26,6 +26,7 @@ pub fn all() -> Vec<Limit> {
     order(&mut limits);
     members(&mut limits);
     types(&mut limits);
+    stamps(&mut limits);
     widest(&mut limits);
     longest(&mut limits);
     limits.0
@@ -153,6 +154,7 @@ fn readers(limits: &mut Limits) {
         named(array_of(blank()), "id"),
         named(Body::Quantity(0x19, vec![[6, 1]]), "id"),
         named(Body::Enumeration(0x15, vec![b"id".to_vec()]), "id"),
+        named(Body::stamp(), "id"),
     ];
     for reader in no_clusters {
         let what = format!("a reader of code {:02X}", reader.body.code());
@@ -186,6 +188,7 @@ fn order(limits: &mut Limits) {
         (id(), &data[4..]),
         (Tree::unnamed(array_of(id())), &data),
         (Tree::unnamed(array_of(cluster(&[id()]))), &data),
+        (named(Body::stamp(), "id"), &[7; 16]),
     ];
     let no_cluster = Answer {
         number: 41,
@@ -317,6 +320,32 @@ fn types(limits: &mut Limits) {
             }
         }
     }
+}
+
+/// A time stamp and what it holds are two types.
+fn stamps(limits: &mut Limits) {
+    let data: Vec<u8> = (0..16).collect();
+    let bodies = [
+        Body::stamp(),
+        halves().body,
+        array_of(Tree::unnamed(Body::stamp())),
+    ];
+    for (index, read) in bodies.iter().enumerate() {
+        let what = format!("a time stamp for a reader of code {:02X}", read.code());
+        let trees = [Body::stamp(), read.clone()].map(|body| cluster(&[named(body, "at")]));
+        match index {
+            0 => limits.given(what, trees, &data, &data),
+            _ => limits.refused(what, trees, &data, 44, 0),
+        }
+    }
+    let at = named(Body::stamp(), "at");
+    let writer = cluster(&[t(), at.clone(), id()]);
+    let record = [&BLANK[..2], &data, &BLANK[2..]].concat();
+    let trees = [writer.clone(), cluster(&[id(), at])];
+    let given = [&BLANK[2..], &data].concat();
+    limits.given("a time stamp put last", trees, &record, &given);
+    let trees = [writer, cluster(&[id()])];
+    limits.given("behind a time stamp", trees, &record, &BLANK[2..]);
 }
 
 /// A cluster of this many bytes.

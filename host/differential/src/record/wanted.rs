@@ -66,6 +66,7 @@ fn change(random: &mut Random, members: &mut Vec<Tree>) {
         }
         4 => member.body = Body::Plain(random.pick(&BYTES)),
         5 => member.body = Body::Text,
+        6 => member.body = Body::stamp(),
         _ => member.body = twin(random, member).0.body,
     }
 }

@@ -94,6 +94,7 @@ impl Tally {
             2 => self.lines.count(Of::Left, spot.end - place),
             3 => self.lines.count(Of::HighSize, word(bytes, place)),
             4 => self.lines.count(Of::WrongSize, word(bytes, place)),
+            5 if bytes[place + 3] == 0x54 => self.lines.count(Of::Subtype, word(bytes, place + 4)),
             5 => self.lines.count(Of::Foreign, usize::from(bytes[place + 3])),
             8..=11 => self.refused_body(bytes, number, place, spot.in_array),
             _ => {}
@@ -105,9 +106,10 @@ impl Tally {
             0x15..=0x17 => (1, Some(Of::WrongItems)),
             0x19..=0x1E => (2, Some(Of::WrongPairs)),
             0x30 => (3, None),
-            0x40 if in_array => (6, None),
+            0x40 if in_array => (7, None),
             0x40 => (4, Some(Of::WrongDimensions)),
             0x50 => (5, Some(Of::WrongMembers)),
+            0x54 => (6, None),
             _ => (0, None),
         };
         self.bodies.count(number as usize - 8, column);
@@ -162,6 +164,7 @@ impl Spot {
         let (first, children) = match bytes[self.start + 3] {
             0x40 => (inside + 4 * count(), 1),
             0x50 => (inside, count()),
+            0x54 => (inside, 1),
             _ => return None,
         };
         let mut child = Spot {

@@ -25,6 +25,7 @@ pub enum Of {
     HighSize,
     WrongSize,
     Foreign,
+    Subtype,
     WrongItems,
     WrongPairs,
     WrongDimensions,
@@ -48,7 +49,7 @@ pub enum Of {
 type Line = (Of, &'static str, &'static [u32]);
 
 /// Every number, in the order of the enum.
-pub const LINES: [Line; 39] = [
+pub const LINES: [Line; 40] = [
     (Of::Length, "bytes", &[4, 6, 4090, 4092, 4094, 4096]),
     (Of::TooLong, "bytes refused", &[4097, 4098, 4099]),
     (Of::Rows, "rows", &[1, 2, 3, 254, 255, 256]),
@@ -89,8 +90,14 @@ pub const LINES: [Line; 39] = [
         Of::Foreign,
         "code, with 5",
         &[
-            0x00, 0x0F, 0x14, 0x18, 0x1F, 0x20, 0x22, 0x2F, 0x31, 0x3F, 0x41, 0x4F, 0x51, 0xFF,
+            0x00, 0x0F, 0x14, 0x18, 0x1F, 0x20, 0x22, 0x2F, 0x31, 0x3F, 0x41, 0x4F, 0x51, 0x53,
+            0x55, 0xFF,
         ],
+    ),
+    (
+        Of::Subtype,
+        "subtype, with 5",
+        &[0, 3, 5, 7, 8, 9, 0x0106, 0x0600, 0xFFFF],
     ),
     (Of::WrongItems, "items, with 9", &[0]),
     (
@@ -129,7 +136,7 @@ pub const LINES: [Line; 39] = [
 ];
 
 /// The most values that a number is counted at.
-const MOST: usize = 14;
+const MOST: usize = 16;
 
 /// How often each value was met.
 pub struct Lines([[u64; MOST]; LINES.len()]);

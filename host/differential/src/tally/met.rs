@@ -6,7 +6,7 @@ use crate::entry::ENTRIES;
 use crate::kind::{Area, KINDS, Known};
 
 /// Every number with the input at fault.
-pub const ANSWERS: [(u32, u32); 39] = [
+pub const ANSWERS: [(u32, u32); 40] = [
     (0, 0),
     (1, 1),
     (2, 1),
@@ -40,6 +40,7 @@ pub const ANSWERS: [(u32, u32); 39] = [
     (25, 3),
     (30, 4),
     (31, 4),
+    (32, 4),
     (40, 2),
     (41, 1),
     (42, 2),
@@ -49,15 +50,28 @@ pub const ANSWERS: [(u32, u32); 39] = [
 ];
 
 /// Every number that the questions can answer.
-pub const NUMBERS: [u32; 27] = [
-    0, 1, 2, 3, 4, 5, 6, 7, 8, 9, 10, 11, 12, 20, 21, 22, 23, 24, 25, 30, 31, 40, 41, 42, 43, 44,
-    50,
+pub const NUMBERS: [u32; 28] = [
+    0, 1, 2, 3, 4, 5, 6, 7, 8, 9, 10, 11, 12, 20, 21, 22, 23, 24, 25, 30, 31, 32, 40, 41, 42, 43,
+    44, 50,
 ];
 
+/// What the cases are about.
+pub const AREAS: [Area; 4] = [Area::Descriptor, Area::Data, Area::Record, Area::Interval];
+
+/// The numbers that the first question about a case is counted by.
+pub fn numbers(area: Area) -> &'static [u32] {
+    match area {
+        Area::Descriptor => &NUMBERS[..13],
+        Area::Data => &NUMBERS[..19],
+        Area::Record => &NUMBERS,
+        Area::Interval => &[0, 32],
+    }
+}
+
 /// Every code that is carried.
-pub const CODES: [u8; 27] = [
+pub const CODES: [u8; 28] = [
     0x01, 0x02, 0x03, 0x04, 0x05, 0x06, 0x07, 0x08, 0x09, 0x0A, 0x0B, 0x0C, 0x0D, 0x0E, 0x15, 0x16,
-    0x17, 0x19, 0x1A, 0x1B, 0x1C, 0x1D, 0x1E, 0x21, 0x30, 0x40, 0x50,
+    0x17, 0x19, 0x1A, 0x1B, 0x1C, 0x1D, 0x1E, 0x21, 0x30, 0x40, 0x50, 0x54,
 ];
 
 fn must(met: bool) -> Cell {
@@ -88,14 +102,15 @@ pub fn kinds(area: Area) -> Table {
     let kinds = KINDS.iter().filter(|kind| kind.area == area);
     let kinds: Vec<&Known> = kinds.collect();
     let columns = texts(kinds.iter().map(|kind| kind.short));
-    let (title, numbers) = match area {
-        Area::Descriptor => ("descriptors by kind", 13),
-        Area::Data => ("data by kind", 19),
-        Area::Record => ("records by kind", 27),
+    let title = match area {
+        Area::Descriptor => "descriptors by kind",
+        Area::Data => "data by kind",
+        Area::Record => "records by kind",
+        Area::Interval => "stamps by kind",
     };
-    let rows = texts(&NUMBERS[..numbers]);
-    Table::new(title, rows, columns, |row, column| {
-        match kinds[column].meets.contains(&NUMBERS[row]) {
+    let numbers = numbers(area);
+    Table::new(title, texts(numbers), columns, |row, column| {
+        match kinds[column].meets.contains(&numbers[row]) {
             true => Cell::Must,
             false => Cell::May,
         }
@@ -182,13 +197,14 @@ pub fn codes() -> Table {
 }
 
 /// The bodies that can be refused: the columns of the next table.
-pub const BODIES: [&str; 7] = [
+pub const BODIES: [&str; 8] = [
     "number",
     "enumeration",
     "quantity",
     "string",
     "array",
     "cluster",
+    "time stamp",
     "array in array",
 ];
 
@@ -197,10 +213,10 @@ pub fn bodies() -> Table {
     let rows = (8..=11).map(|number| format!("with {number}")).collect();
     Table::new("bodies", rows, texts(BODIES), |row, column| {
         must(match row {
-            0 => (1..=5).contains(&column),
+            0 => (1..=6).contains(&column),
             1 => (1..=5).contains(&column) && column != 3,
-            2 => (1..=6).contains(&column) && column != 5,
-            _ => column <= 5,
+            2 => (1..=7).contains(&column) && column != 5,
+            _ => column <= 6,
         })
     })
 }

@@ -1,6 +1,6 @@
 //! Descriptors and answers put together by hand.
 
-use reference::Answer;
+use reference::{Answer, Row, check_descriptor};
 
 /// A descriptor of this code with these bytes behind the header.
 fn descriptor(code: u8, behind: &[u8]) -> Vec<u8> {
@@ -43,5 +43,27 @@ pub fn answer(number: u32, input: u32, place: u32) -> Answer {
         number,
         input,
         place,
+    }
+}
+
+/// Checks that the descriptor is accepted with exactly these rows.
+#[track_caller]
+pub fn accepted(descriptor: &[u8], rows: &[[u16; 7]]) {
+    let checked = check_descriptor(descriptor);
+    let expected = answer(0, 0, rows.len() as u32);
+    assert_eq!(checked.answer, expected, "{descriptor:02X?}");
+    for (index, row) in checked.rows.iter().enumerate() {
+        let [code, start, size, depth, count, name_place, name_length] =
+            rows.get(index).copied().unwrap_or_default();
+        let stated = Row {
+            code,
+            start,
+            size,
+            depth,
+            count,
+            name_place,
+            name_length,
+        };
+        assert_eq!(*row, stated, "{descriptor:02X?}, row {index}");
     }
 }

@@ -18,6 +18,14 @@ pub enum Type {
         element: Box<Type>,
     },
     Cluster(Vec<Type>),
+    /// A time stamp and the cluster in it.
+    Stamp(Box<Type>),
+}
+
+/// A time stamp.
+pub fn stamp() -> Type {
+    let halves = [0x03, 0x03, 0x07, 0x07].map(|code| Type::Scalar { code, items: 0 });
+    Type::Stamp(Box::new(Type::Cluster(halves.into())))
 }
 
 /// A number and a place.
@@ -109,6 +117,7 @@ impl<'a> Walk<'a> {
                 Ok(())
             }
             Type::Cluster(members) => members.iter().try_for_each(|member| self.part(member)),
+            Type::Stamp(cluster) => self.part(cluster),
         }
     }
 
@@ -193,6 +202,10 @@ pub fn find<'a>(top: &'a Type, data: &[u8], path: &[u32]) -> Result<Found<'a>, u
             Type::Cluster(members) if (*step as usize) < members.len() => {
                 of = &members[*step as usize];
                 members[..*step as usize].iter().collect()
+            }
+            Type::Stamp(cluster) if *step == 0 => {
+                of = cluster;
+                vec![]
             }
             _ => return Err(number as u32),
         };

@@ -1,6 +1,6 @@
 //! Descriptors and data by chance, the same in every run.
 
-use super::{Type, numbers};
+use super::{Type, numbers, stamp};
 
 /// A xorshift.
 pub struct Random(pub u64);
@@ -35,10 +35,11 @@ const SCALARS: [u8; 24] = [
 
 /// A type of at most so many levels.
 pub fn any_type(random: &mut Random, levels: usize) -> Type {
-    match random.below(10) {
+    match random.below(11) {
         0..=2 if levels > 1 => array(random, levels),
         3..=5 if levels > 1 => cluster(random, levels),
         6 => Type::Text,
+        7 if levels > 2 => stamp(),
         _ => scalar(random),
     }
 }
@@ -108,6 +109,13 @@ pub fn encode(of: &Type, random: &mut Random) -> Vec<u8> {
                 .iter()
                 .for_each(|member| bytes.extend(encode(member, random)));
         }
+        Type::Stamp(_) => {
+            bytes[3] = 0x54;
+            bytes.extend([0, 6, 0, 0x16, random.byte(), 0x50, 0, 4]);
+            for code in [0x03, 0x03, 0x07, 0x07] {
+                bytes.extend([0, 4, random.byte(), code]);
+            }
+        }
     }
     name(&mut bytes, random);
     let size = (bytes.len() as u16).to_be_bytes();
@@ -166,6 +174,7 @@ pub fn any_data(of: &Type, random: &mut Random, sizes: usize, data: &mut Vec<u8>
         Type::Cluster(members) => members
             .iter()
             .for_each(|member| any_data(member, random, sizes, data)),
+        Type::Stamp(cluster) => any_data(cluster, random, sizes, data),
     }
 }
 

@@ -14,6 +14,7 @@ fn inside(descriptor: &[u8]) -> Vec<usize> {
     let (first, count) = match descriptor[3] {
         0x40 => (6 + 4 * word(descriptor, 4), 1),
         0x50 => (6, word(descriptor, 4)),
+        0x54 => (6, 1),
         _ => (0, 0),
     };
     let mut start = first;
@@ -46,7 +47,7 @@ pub fn nameless(descriptor: &[u8]) -> &[u8] {
         }
         0x19..=0x1E => 6 + 4 * word(descriptor, 4),
         0x30 => 8,
-        0x40 | 0x50 => {
+        0x40 | 0x50 | 0x54 => {
             let last = *inside(descriptor).last().unwrap();
             last + word(descriptor, last)
         }
@@ -90,6 +91,7 @@ pub fn describes(descriptor: &[u8]) -> Type {
             element: Box::new(inside.next().unwrap()),
         },
         0x50 => Type::Cluster(inside.collect()),
+        0x54 => Type::Stamp(Box::new(inside.next().unwrap())),
         code => Type::Scalar {
             code,
             items: match code {

@@ -1,18 +1,14 @@
 -- The common width of the numbers of a type and of a row of types. The measure is the depth left, twice, and one more for a row. The
 -- invariant: the width so far and the numbers that are left have the width of all. Rests on `Numbers`.
 use mathlib.Core.Path.{sym, ap, _∙_}
-use mathlib.Core.List.{List, [], _∷_}
 use Prim.Native.Nat.{ℕ, _+_, _-_, _<_}
 use native.Mathlib.Omega.{arith}
 use denote.Ref.{now}
-use Rattle.descriptor.specs.Codes.{cluster, kindOf}
+use Rattle.descriptor.specs.Codes.{kindOf}
 use Rattle.descriptor.specs.Width.{widthOf}
-use Rattle.descriptor.specs.inner.Steps.{kindIs}
-use Rattle.descriptor.specs.declared.codes.Kind.the-variants as kinds
-use Rattle.descriptor.proofs.CodeKinds.{kindNamed, known}
+use Rattle.descriptor.specs.inner.Steps.{isCompound}
 use Rattle.descriptor.proofs.Bodies.{header-room}
-use Rattle.flattened.proofs.Cases.{hasInside, row-inside}
-use Rattle.flattened.proofs.Named.{not-kind}
+use Rattle.flattened.proofs.Cases.{compound-inside, row-inside}
 use Rattle.flattened.proofs.Types.{type-deep}
 use Rattle.columns.specs.inner.Columns.{joinedWidth, commonWidth}
 use Rattle.columns.proofs.Numbers.{numbers-scalar, numbers-members, numbers-other, common-scalar, next-type, CommonLoop, common-begin, common-next, common-end}
@@ -26,7 +22,7 @@ use Rattle.columns.proofs.even.common_width.Reads as common-width
 use Rattle.columns.proofs.even.common_width.Kinds as common-width-kinds
 use Rattle.columns.proofs.even.+common_row+common_width.Lts-common_width as common-width-lts
 use Rattle.byteorder.proofs.scalars.number_width.Reads as number-width-reads
-use Rattle.descriptor.proofs.codes.kind_of.Reads as kind-of-reads
+use Rattle.descriptor.proofs.codes.is_compound.Reads as is-compound-reads
 use Rattle.descriptor.proofs.header.code_at.Reads as code-at-reads
 use Rattle.descriptor.proofs.header.size_at.Reads as size-at-reads
 use Rattle.descriptor.proofs.inside.inside_of.Reads as inside-of-reads
@@ -57,7 +53,7 @@ abbrev common-row-calls : ℕ → common-row-lts.Claims
 common-row-calls t = (common-width-below t, common-width.Post, size-at-reads.Asked, size-at-reads.Learnt)
 
 abbrev common-width-calls : ℕ → common-width-lts.Claims
-common-width-calls t = (code-at-reads.Asked, code-at-reads.Learnt, width-reads.Asked, width-reads.Learnt, number-width-reads.Asked, number-width-reads.Learnt, joined-width-reads.Asked, joined-width-reads.Learnt, kind-of-reads.Asked, kind-of-reads.Learnt, inside-of-reads.Asked, inside-of-reads.Learnt, common-row-below t, common-row.Post)
+common-width-calls t = (code-at-reads.Asked, code-at-reads.Learnt, width-reads.Asked, width-reads.Learnt, number-width-reads.Asked, number-width-reads.Learnt, joined-width-reads.Asked, joined-width-reads.Learnt, is-compound-reads.Asked, is-compound-reads.Learnt, inside-of-reads.Asked, inside-of-reads.Learnt, common-row-below t, common-row.Post)
 
 abbrev common-row-Inv-loop : common-row-lts.InvT-loop
 common-row-Inv-loop d start k before left p₀ w₀ i₀ p w i = CommonLoop d start k before left p w i
@@ -124,42 +120,37 @@ common-width-returns t c =
     let numbers = numbers-scalar (now (a .d)) (a .p) (c .before .before .before .before .before .before .pre .1 .here) _ (c .before .before .before .before .code-at .ensures) (omega (arith, c .before .before .if1 .taken, c .before .before .before .width .ensures)) in
     c .joined-width .ensures ∙ ap (joinedWidth (a .before)) (c .before .number-width .ensures) ∙ common-scalar (a .before) _ ∙ ap (commonWidth (a .before)) (sym numbers)
 
-common-width-kind-of-requires : (t : ℕ) → common-width-lts.Need-kind-of-requires (common-width-calls t) (common-width-at t) common-width.Post
-common-width-kind-of-requires t c κs = search needs
-
-common-width-enum-told : (t : ℕ) → common-width-lts.Need-enum-told (common-width-calls t) (common-width-at t) common-width.Post
-common-width-enum-told t c = search needs
+common-width-is-compound-requires : (t : ℕ) → common-width-lts.Need-is-compound-requires (common-width-calls t) (common-width-at t) common-width.Post
+common-width-is-compound-requires t c κs = search needs
 
 common-width-inside-of-requires : (t : ℕ) → common-width-lts.Need-inside-of-requires (common-width-calls t) (common-width-at t) common-width.Post
-common-width-inside-of-requires t c κs = c .before .before .before .before .before .before .before .pre .1 .here
+common-width-inside-of-requires t c κs = c .before .before .before .before .before .before .pre .1 .here
 
 common-width-sub-common-row : (t : ℕ) → common-width-lts.Need-sub-common-row (common-width-calls t) (common-width-at t) common-width.Post
 common-width-sub-common-row t c =
-    let a = c .before .before .before .before .before .before .before .before .args in
-    type-deep (now (a .d)) (a .p) (a .left) (c .before .before .before .before .before .before .before .before .pre .1)
+    let a = c .before .before .before .before .before .before .before .args in
+    type-deep (now (a .d)) (a .p) (a .left) (c .before .before .before .before .before .before .before .pre .1)
 
 common-width-common-row-requires : (t : ℕ) → common-width-lts.Need-common-row-requires (common-width-calls t) (common-width-at t) common-width.Post
-unfolding kindNamed hasInside
 common-width-common-row-requires t c κs =
-    let a = c .before .before .before .before .before .before .before .before .args in
-    let type = c .before .before .before .before .before .before .before .before .pre .1 in
-    let kind = known _ kinds.Cluster (kindOf (c .before .before .before .before .before .before .code-at .result)) (c .before .before .before .kind-of .ensures) (c .before .enum-told .given .1) ∙ ap kindOf (c .before .before .before .before .before .before .code-at .ensures) in
-    (omega (arith, type-deep (now (a .d)) (a .p) (a .left) type, c .before .before .before .before .before .before .before .before .pre .0), row-inside (now (a .d)) (a .p) (a .left) type _ (c .inside-of .ensures) (sym (ap hasInside kind)))
+    let a = c .before .before .before .before .before .before .before .args in
+    let type = c .before .before .before .before .before .before .before .pre .1 in
+    let kind = ap (λ x. isCompound (kindOf x)) (sym (c .before .before .before .before .before .code-at .ensures)) ∙ sym (c .before .before .is-compound .ensures) ∙ c .before .if2 .taken in
+    (omega (arith, type-deep (now (a .d)) (a .p) (a .left) type, c .before .before .before .before .before .before .before .pre .0), row-inside (now (a .d)) (a .p) (a .left) type _ (c .inside-of .ensures) (compound-inside _ kind))
 
 common-width-returns-2 : (t : ℕ) → common-width-lts.Need-returns-2 (common-width-calls t) (common-width-at t) common-width.Post
-unfolding kindNamed
 common-width-returns-2 t c =
-    let a = c .before .before .before .before .before .before .before .before .before .args in
-    let kind = known _ kinds.Cluster (kindOf (c .before .before .before .before .before .before .before .code-at .result)) (c .before .before .before .before .kind-of .ensures) (c .before .before .enum-told .given .1) ∙ ap kindOf (c .before .before .before .before .before .before .before .code-at .ensures) in
-    c .common-row .ensures ∙ ap (commonWidth (a .before)) (sym (numbers-members (now (a .d)) (a .p) (c .before .before .before .before .before .before .before .before .before .pre .1 .here) _ (c .before .inside-of .ensures) kind))
+    let a = c .before .before .before .before .before .before .before .before .args in
+    let kind = ap (λ x. isCompound (kindOf x)) (sym (c .before .before .before .before .before .before .code-at .ensures)) ∙ sym (c .before .before .before .is-compound .ensures) ∙ c .before .before .if2 .taken in
+    c .common-row .ensures ∙ ap (commonWidth (a .before)) (sym (numbers-members (now (a .d)) (a .p) (c .before .before .before .before .before .before .before .before .pre .1 .here) _ (c .before .inside-of .ensures) kind))
 
 common-width-returns-3 : (t : ℕ) → common-width-lts.Need-returns-3 (common-width-calls t) (common-width-at t) common-width.Post
-unfolding kindIs commonWidth
+unfolding commonWidth
 common-width-returns-3 t c =
     let a = c .before .before .before .before .before .before .args in
     let wide = c .before .before .before .width .ensures ∙ ap widthOf (c .before .before .before .before .code-at .ensures) in
-    let no-cluster = not-kind cluster (0 ∷ 1 ∷ 2 ∷ 3 ∷ 4 ∷ 6 ∷ []) tt _ _ _ (c .before .kind-of .ensures) (c .before .before .before .before .code-at .ensures) (c .match .keys2) in
-    ap (commonWidth (a .before)) (sym (numbers-other (now (a .d)) (a .p) (c .before .before .before .before .before .before .pre .1 .here) (omega (arith, c .before .before .if1 .left, wide)) no-cluster))
+    let simple = ap (λ x. isCompound (kindOf x)) (sym (c .before .before .before .before .code-at .ensures)) ∙ sym (c .before .is-compound .ensures) ∙ c .if2 .left in
+    ap (commonWidth (a .before)) (sym (numbers-other (now (a .d)) (a .p) (c .before .before .before .before .before .before .pre .1 .here) (omega (arith, c .before .before .if1 .left, wide)) simple))
 
 pub +common-row+common-width-spec : {M : Type 1} → statement M
 +common-row+common-width-spec = close μ-common-row μ-common-width (λ t. common-row-lts.spec (common-row-calls t)
@@ -183,8 +174,7 @@ pub +common-row+common-width-spec : {M : Type 1} → statement M
     (common-width-number-width-requires t)
     (common-width-joined-width-requires t)
     (common-width-returns t)
-    (common-width-kind-of-requires t)
-    (common-width-enum-told t)
+    (common-width-is-compound-requires t)
     (common-width-inside-of-requires t)
     (common-width-sub-common-row t)
     (common-width-common-row-requires t)

@@ -1,18 +1,14 @@
 -- The columns of a type and of a row of types. The measure is the depth left, twice, and one more for a row. The invariant: with the columns
 -- that are left, the output becomes what is promised. Rests on `Numbers`.
 use mathlib.Core.Path.{sym, ap, subst, _∙_}
-use mathlib.Core.List.{List, [], _∷_}
 use Prim.Native.Nat.{ℕ, _+_, _-_, _<_}
 use native.Mathlib.Omega.{arith}
 use denote.Ref.{now}
-use Rattle.descriptor.specs.Codes.{cluster, kindOf}
+use Rattle.descriptor.specs.Codes.{kindOf}
 use Rattle.descriptor.specs.Width.{widthOf}
-use Rattle.descriptor.specs.inner.Steps.{kindIs}
-use Rattle.descriptor.specs.declared.codes.Kind.the-variants as kinds
-use Rattle.descriptor.proofs.CodeKinds.{kindNamed, known}
+use Rattle.descriptor.specs.inner.Steps.{isCompound}
 use Rattle.descriptor.proofs.Bodies.{header-room}
-use Rattle.flattened.proofs.Cases.{hasInside, row-inside}
-use Rattle.flattened.proofs.Named.{not-kind}
+use Rattle.flattened.proofs.Cases.{compound-inside, row-inside}
 use Rattle.flattened.proofs.Types.{type-deep}
 use Rattle.columns.proofs.Numbers.{numbers-scalar, numbers-members, numbers-other, scalar-spread, scalar-columns, spread-numbers, columns-numbers, no-columns, next-type, ColumnsLoop, columns-begin, columns-here, columns-next, columns-end}
 use borrow.Author.Needs.{needs}
@@ -25,7 +21,7 @@ use Rattle.columns.proofs.even.turn_columns_row.Reads as turn-columns-r
 use Rattle.columns.proofs.even.turn_columns_row.Kinds as turn-columns-row-kinds
 use Rattle.columns.proofs.even.+turn_columns+turn_columns_row.Lts-turn_columns_row as turn-columns-row-lts
 use Rattle.columns.proofs.column.turn_scalar_column.Reads as turn-scalar-column-reads
-use Rattle.descriptor.proofs.codes.kind_of.Reads as kind-of-reads
+use Rattle.descriptor.proofs.codes.is_compound.Reads as is-compound-reads
 use Rattle.descriptor.proofs.header.code_at.Reads as code-at-reads
 use Rattle.descriptor.proofs.header.size_at.Reads as size-at-reads
 use Rattle.descriptor.proofs.inside.inside_of.Reads as inside-of-reads
@@ -52,7 +48,7 @@ abbrev turn-columns-row-below : ℕ → In 3 turn-columns-row-kinds.ps
 turn-columns-row-below t = and 3 turn-columns-row-kinds.ps (falls 3 turn-columns-row-kinds.ps _<_ μ-turn-columns-row t) turn-columns-row.Pre
 
 abbrev turn-columns-calls : ℕ → turn-columns-lts.Claims
-turn-columns-calls t = (code-at-reads.Asked, code-at-reads.Learnt, width-reads.Asked, width-reads.Learnt, turn-scalar-column-reads.Asked, turn-scalar-column-reads.Learnt, kind-of-reads.Asked, kind-of-reads.Learnt, inside-of-reads.Asked, inside-of-reads.Learnt, turn-columns-row-below t, turn-columns-row.Post)
+turn-columns-calls t = (code-at-reads.Asked, code-at-reads.Learnt, width-reads.Asked, width-reads.Learnt, turn-scalar-column-reads.Asked, turn-scalar-column-reads.Learnt, is-compound-reads.Asked, is-compound-reads.Learnt, inside-of-reads.Asked, inside-of-reads.Learnt, turn-columns-row-below t, turn-columns-row.Post)
 
 abbrev turn-columns-row-calls : ℕ → turn-columns-row-lts.Claims
 turn-columns-row-calls t = (turn-columns-below t, turn-columns.Post, size-at-reads.Asked, size-at-reads.Learnt)
@@ -85,47 +81,41 @@ turn-columns-returns t c =
     let numbers = numbers-scalar (now (a .d)) (a .p) (c .before .before .before .before .before .before .before .before .before .before .pre .1 .0 .here) _ (c .before .before .before .before .before .before .code-at .ensures) (omega (arith, c .before .before .before .before .if1 .taken, c .before .before .before .before .before .width .ensures)) in
     scalar-columns _ _ _ (c .before .before .before .before .before .width .ensures) numbers (now (a .s)) (now (a .out)) _ (a .at) (a .step) (a .n) (c .before .before .turn-scalar-column .ensures)
 
-turn-columns-kind-of-requires : (t : ℕ) → turn-columns-lts.Need-kind-of-requires (turn-columns-calls t) (turn-columns-at t) turn-columns.Post
-turn-columns-kind-of-requires t c κs = search needs
-
-turn-columns-enum-told : (t : ℕ) → turn-columns-lts.Need-enum-told (turn-columns-calls t) (turn-columns-at t) turn-columns.Post
-turn-columns-enum-told t c = search needs
+turn-columns-is-compound-requires : (t : ℕ) → turn-columns-lts.Need-is-compound-requires (turn-columns-calls t) (turn-columns-at t) turn-columns.Post
+turn-columns-is-compound-requires t c κs = search needs
 
 turn-columns-inside-of-requires : (t : ℕ) → turn-columns-lts.Need-inside-of-requires (turn-columns-calls t) (turn-columns-at t) turn-columns.Post
-turn-columns-inside-of-requires t c κs = c .before .before .before .before .before .before .before .before .before .pre .1 .0 .here
+turn-columns-inside-of-requires t c κs = c .before .before .before .before .before .before .before .before .pre .1 .0 .here
 
 turn-columns-sub-turn-columns-row : (t : ℕ) → turn-columns-lts.Need-sub-turn-columns-row (turn-columns-calls t) (turn-columns-at t) turn-columns.Post
 turn-columns-sub-turn-columns-row t c =
-    let a = c .before .before .before .before .before .before .before .before .before .before .before .args in
-    type-deep (now (a .d)) (a .p) (a .left) (c .before .before .before .before .before .before .before .before .before .before .before .pre .1 .0)
+    let a = c .before .before .before .before .before .before .before .before .before .before .args in
+    type-deep (now (a .d)) (a .p) (a .left) (c .before .before .before .before .before .before .before .before .before .before .pre .1 .0)
 
 turn-columns-turn-columns-row-requires : (t : ℕ) → turn-columns-lts.Need-turn-columns-row-requires (turn-columns-calls t) (turn-columns-at t) turn-columns.Post
-unfolding kindNamed hasInside
 turn-columns-turn-columns-row-requires t c κs =
-    let a = c .before .before .before .before .before .before .before .before .before .before .before .args in
-    let type = c .before .before .before .before .before .before .before .before .before .before .before .pre .1 .0 in
-    let kind = known _ kinds.Cluster (kindOf (c .before .before .before .before .before .before .before .code-at .result)) (c .before .before .before .before .kind-of .ensures) (c .before .before .enum-told .given .1) ∙ ap kindOf (c .before .before .before .before .before .before .before .code-at .ensures) in
+    let a = c .before .before .before .before .before .before .before .before .before .before .args in
+    let type = c .before .before .before .before .before .before .before .before .before .before .pre .1 .0 in
+    let kind = ap (λ x. isCompound (kindOf x)) (sym (c .before .before .before .before .before .before .code-at .ensures)) ∙ sym (c .before .before .before .is-compound .ensures) ∙ c .before .before .if2 .taken in
     let numbers = numbers-members (now (a .d)) (a .p) (type .here) _ (c .before .inside-of .ensures) kind in
-    (omega (arith, type-deep (now (a .d)) (a .p) (a .left) type, c .before .before .before .before .before .before .before .before .before .before .before .pre .0), (row-inside (now (a .d)) (a .p) (a .left) type _ (c .before .inside-of .ensures) (sym (ap hasInside kind)), spread-numbers _ _ numbers (now (a .s)) (now (a .out)) (a .at) (a .step) (a .n) (c .before .before .before .before .before .before .before .before .before .before .before .pre .1 .1)))
+    (omega (arith, type-deep (now (a .d)) (a .p) (a .left) type, c .before .before .before .before .before .before .before .before .before .before .pre .0), (row-inside (now (a .d)) (a .p) (a .left) type _ (c .before .inside-of .ensures) (compound-inside _ kind), spread-numbers _ _ numbers (now (a .s)) (now (a .out)) (a .at) (a .step) (a .n) (c .before .before .before .before .before .before .before .before .before .before .pre .1 .1)))
 
 turn-columns-same-length-2 : (t : ℕ) → turn-columns-lts.Need-same-length-2 (turn-columns-calls t) (turn-columns-at t) turn-columns.Post
 turn-columns-same-length-2 t c = search needs
 
 turn-columns-returns-2 : (t : ℕ) → turn-columns-lts.Need-returns-2 (turn-columns-calls t) (turn-columns-at t) turn-columns.Post
-unfolding kindNamed
 turn-columns-returns-2 t c =
-    let a = c .before .before .before .before .before .before .before .before .before .before .before .before .before .before .args in
-    let kind = known _ kinds.Cluster (kindOf (c .before .before .before .before .before .before .before .before .before .before .code-at .result)) (c .before .before .before .before .before .before .before .kind-of .ensures) (c .before .before .before .before .before .enum-told .given .1) ∙ ap kindOf (c .before .before .before .before .before .before .before .before .before .before .code-at .ensures) in
-    let numbers = numbers-members (now (a .d)) (a .p) (c .before .before .before .before .before .before .before .before .before .before .before .before .before .before .pre .1 .0 .here) _ (c .before .before .before .before .inside-of .ensures) kind in
+    let a = c .before .before .before .before .before .before .before .before .before .before .before .before .before .args in
+    let kind = ap (λ x. isCompound (kindOf x)) (sym (c .before .before .before .before .before .before .before .before .before .code-at .ensures)) ∙ sym (c .before .before .before .before .before .before .is-compound .ensures) ∙ c .before .before .before .before .before .if2 .taken in
+    let numbers = numbers-members (now (a .d)) (a .p) (c .before .before .before .before .before .before .before .before .before .before .before .before .before .pre .1 .0 .here) _ (c .before .before .before .before .inside-of .ensures) kind in
     columns-numbers _ _ numbers (now (a .s)) (now (a .out)) _ (a .at) (a .step) (a .n) _ (c .before .before .turn-columns-row .ensures)
 
 turn-columns-returns-3 : (t : ℕ) → turn-columns-lts.Need-returns-3 (turn-columns-calls t) (turn-columns-at t) turn-columns.Post
-unfolding kindIs
 turn-columns-returns-3 t c =
     let a = c .before .before .before .before .before .before .before .before .args in
     let wide = c .before .before .before .width .ensures ∙ ap widthOf (c .before .before .before .before .code-at .ensures) in
-    let no-cluster = not-kind cluster (0 ∷ 1 ∷ 2 ∷ 3 ∷ 4 ∷ 6 ∷ []) tt _ _ _ (c .before .kind-of .ensures) (c .before .before .before .before .code-at .ensures) (c .match .keys2) in
-    let numbers = numbers-other (now (a .d)) (a .p) (c .before .before .before .before .before .before .before .before .pre .1 .0 .here) (omega (arith, c .before .before .if1 .left, wide)) no-cluster in
+    let simple = ap (λ x. isCompound (kindOf x)) (sym (c .before .before .before .before .code-at .ensures)) ∙ sym (c .before .is-compound .ensures) ∙ c .if2 .left in
+    let numbers = numbers-other (now (a .d)) (a .p) (c .before .before .before .before .before .before .before .before .pre .1 .0 .here) (omega (arith, c .before .before .if1 .left, wide)) simple in
     no-columns _ numbers (now (a .s)) (now (a .out)) (a .at) (a .step) (a .n)
 
 abbrev turn-columns-row-Inv-loop : turn-columns-row-lts.InvT-loop
@@ -190,8 +180,7 @@ pub +turn-columns+turn-columns-row-spec : {M : Type 1} → statement M
     (turn-columns-add-result t)
     (turn-columns-same-length t)
     (turn-columns-returns t)
-    (turn-columns-kind-of-requires t)
-    (turn-columns-enum-told t)
+    (turn-columns-is-compound-requires t)
     (turn-columns-inside-of-requires t)
     (turn-columns-sub-turn-columns-row t)
     (turn-columns-turn-columns-row-requires t)

@@ -31,6 +31,9 @@ enum-told-6 c = search needs
 enum-told-7 : tie.Need-enum-told-7
 enum-told-7 c = search needs
 
+enum-told-8 : tie.Need-enum-told-8
+enum-told-8 c = search needs
+
 returns : tie.Need-returns
 unfolding kindNamed
 returns c = ap isCarried (known _ kinds.Plain (kindOf (c .before .before .before .args .code)) (c .before .before .kind-of .ensures) (c .enum-told .given .1))
@@ -57,7 +60,11 @@ returns-6 c = ap isCarried (known _ kinds.Cluster (kindOf (c .before .before .be
 
 returns-7 : tie.Need-returns-7
 unfolding kindNamed
-returns-7 c = ap isCarried (known _ kinds.Unknown (kindOf (c .before .before .before .args .code)) (c .before .before .kind-of .ensures) (c .enum-told7 .given .1))
+returns-7 c = ap isCarried (known _ kinds.Stamp (kindOf (c .before .before .before .args .code)) (c .before .before .kind-of .ensures) (c .enum-told7 .given .1))
+
+returns-8 : tie.Need-returns-8
+unfolding kindNamed
+returns-8 c = ap isCarried (known _ kinds.Unknown (kindOf (c .before .before .before .args .code)) (c .before .before .kind-of .ensures) (c .enum-told8 .given .1))
 
 pub is-carried-spec : {M : Type 1} → statement M
-is-carried-spec = tie.close (tie.spec kind-of-requires enum-told enum-told-2 enum-told-3 enum-told-4 enum-told-5 enum-told-6 enum-told-7 returns returns-2 returns-3 returns-4 returns-5 returns-6 returns-7)
+is-carried-spec = tie.close (tie.spec kind-of-requires enum-told enum-told-2 enum-told-3 enum-told-4 enum-told-5 enum-told-6 enum-told-7 enum-told-8 returns returns-2 returns-3 returns-4 returns-5 returns-6 returns-7 returns-8)

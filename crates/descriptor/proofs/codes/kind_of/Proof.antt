@@ -1,7 +1,7 @@
 -- `kind_of` names the code's kind: each branch by the range of codes that leads to it. Assumes nothing.
 use mathlib.Core.Path.{refl, sym, ap}
 use native.Mathlib.Omega.{arith}
-use Rattle.descriptor.specs.Codes.{kindOf, plain, enumeration, quantity, string, array, cluster, unknown}
+use Rattle.descriptor.specs.Codes.{kindOf, plain, enumeration, quantity, string, array, cluster, stamp, unknown}
 use Rattle.descriptor.specs.inner.Steps.{kindIs}
 use Rattle.descriptor.proofs.CodeKinds.{kindNumber, allAre, in-range, past-ranges}
 use Rattle.descriptor.proofs.codes.kind_of.Statement.{statement}
@@ -48,8 +48,12 @@ unfolding allAre kindOf kindNumber kindIs
 returns-10 c = in-range cluster 1 0x50 refl (c .before .before .before .before .before .before .before .before .before .before .args .code) (omega arith) (omega arith)
 
 returns-11 : tie.Need-returns-11
+unfolding allAre kindOf kindNumber kindIs
+returns-11 c = in-range stamp 1 0x54 refl (c .before .before .before .before .before .before .before .before .before .before .before .args .code) (omega arith) (omega arith)
+
+returns-12 : tie.Need-returns-12
 unfolding kindIs
-returns-11 c = ap kindIs (sym (past-ranges (c .before .before .before .before .before .before .before .before .before .before .args .code) (omega arith) (λ e. omega arith) (λ e. omega arith) (λ e. omega arith) (λ e. omega arith)))
+returns-12 c = ap kindIs (sym (past-ranges (c .before .before .before .before .before .before .before .before .before .before .before .args .code) (omega arith) (λ e. omega arith) (λ e. omega arith) (λ e. omega arith) (λ e. omega arith) (λ e. omega arith)))
 
 pub kind-of-spec : {M : Type 1} → statement M
-kind-of-spec = tie.close (tie.spec returns returns-2 returns-3 returns-4 returns-5 returns-6 returns-7 returns-8 returns-9 returns-10 returns-11)
+kind-of-spec = tie.close (tie.spec returns returns-2 returns-3 returns-4 returns-5 returns-6 returns-7 returns-8 returns-9 returns-10 returns-11 returns-12)

@@ -5,7 +5,7 @@ use native.Mathlib.Omega.{arith}
 use denote.Ref.{now}
 use borrow.Author.Needs.{needs}
 use Rattle.number.specs.Endian.{be}
-use Rattle.descriptor.specs.Codes.{plain, enumeration, quantity, string, array, cluster, unknown, kindOf}
+use Rattle.descriptor.specs.Codes.{plain, enumeration, quantity, string, array, cluster, stamp, unknown, kindOf}
 use Rattle.descriptor.specs.inner.Standing.{leafInside}
 use Rattle.descriptor.specs.declared.codes.Kind.the-variants as kinds
 use Rattle.descriptor.proofs.CodeKinds.{kindNamed, known}
@@ -92,6 +92,12 @@ add-t19 c = omega (arith, header-room (now (c .before .before .before .before .b
 enum-told-7 : tie.Need-enum-told-7
 enum-told-7 c = search needs
 
+add-t20 : tie.Need-add-t20
+add-t20 c = omega (arith, header-room (now (c .before .before .before .before .before .before .args .d)) (c .before .before .before .before .before .before .args .p) (c .before .before .before .before .before .before .pre), c .before .before .before .before .before .before .pre .small, c .before .before .before .before .body-at .ensures)
+
+enum-told-8 : tie.Need-enum-told-8
+enum-told-8 c = search needs
+
 leaf-requires-3 : tie.Need-leaf-requires-3
 leaf-requires-3 c κs = search needs
 
@@ -121,7 +127,11 @@ returns-6 c = (λ i. record { at = (c .before .before .before .before .before .b
 
 returns-7 : tie.Need-returns-7
 unfolding kindNamed insideBy
-returns-7 c = c .leaf3 .ensures ∙ (ap (λ x. leafInside x) (c .before .before .before .before .before .body-at .ensures) ∙ inside-is (now (c .before .before .before .before .before .before .before .args .d)) (c .before .before .before .before .before .before .before .args .p) (c .before .before .before .before .before .before .before .pre) unknown (known _ kinds.Unknown (kindOf (c .before .before .before .before .code-at .result)) (c .before .before .before .kind-of .ensures) (c .before .enum-told7 .given .1) ∙ ap kindOf (c .before .before .before .before .code-at .ensures)))
+returns-7 c = (λ i. record { at = (c .before .before .before .before .body-at .ensures) i + 2; count = 0; children = 1 }) ∙ inside-is (now (c .before .before .before .before .before .before .args .d)) (c .before .before .before .before .before .before .args .p) (c .before .before .before .before .before .before .pre) stamp (known _ kinds.Stamp (kindOf (c .before .before .before .code-at .result)) (c .before .before .kind-of .ensures) (c .enum-told7 .given .1) ∙ ap kindOf (c .before .before .before .code-at .ensures))
+
+returns-8 : tie.Need-returns-8
+unfolding kindNamed insideBy
+returns-8 c = c .leaf3 .ensures ∙ (ap (λ x. leafInside x) (c .before .before .before .before .before .body-at .ensures) ∙ inside-is (now (c .before .before .before .before .before .before .before .args .d)) (c .before .before .before .before .before .before .before .args .p) (c .before .before .before .before .before .before .before .pre) unknown (known _ kinds.Unknown (kindOf (c .before .before .before .before .code-at .result)) (c .before .before .before .kind-of .ensures) (c .before .enum-told8 .given .1) ∙ ap kindOf (c .before .before .before .before .code-at .ensures)))
 
 pub inside-of-spec : {M : Type 1} → statement M
 inside-of-spec =
@@ -152,6 +162,8 @@ inside-of-spec =
     be16-requires-4
     add-t19
     enum-told-7
+    add-t20
+    enum-told-8
     leaf-requires-3
     returns
     returns-2
@@ -159,4 +171,5 @@ inside-of-spec =
     returns-4
     returns-5
     returns-6
-    returns-7)
+    returns-7
+    returns-8)

@@ -2,19 +2,15 @@
 -- that are left are kept, all are. Rests on `Keeping`.
 use borrow.Author.Needs.{needs}
 use mathlib.Core.Path.{sym, ap, _∙_}
-use mathlib.Core.List.{[], _∷_}
 use Prim.Native.Nat.{ℕ, _+_, _-_, _<_}
 use native.Mathlib.Omega.{arith}
 use denote.Ref.{now}
-use Rattle.descriptor.specs.Codes.{cluster, kindOf}
+use Rattle.descriptor.specs.Codes.{kindOf}
 use Rattle.descriptor.specs.Width.{widthOf}
-use Rattle.descriptor.specs.inner.Steps.{kindIs}
-use Rattle.descriptor.specs.declared.codes.Kind.the-variants as kinds
-use Rattle.descriptor.proofs.CodeKinds.{kindNamed, known}
+use Rattle.descriptor.specs.inner.Steps.{isCompound}
 use Rattle.descriptor.proofs.Bodies.{header-room}
 use Rattle.flattened.specs.inner.Order.{orderOf}
-use Rattle.flattened.proofs.Named.{not-kind}
-use Rattle.flattened.proofs.Cases.{hasInside, row-inside}
+use Rattle.flattened.proofs.Cases.{compound-inside, row-inside}
 use Rattle.flattened.proofs.Types.{type-deep}
 use Rattle.elements.proofs.Placing.{roomy-fewer}
 use Rattle.elements.proofs.Keeping.{kept-members, kept-other, ahead-inside, definite-inside, RowLoop, row-begin, next-turn, here-definite, next-least, row-next, row-kept}
@@ -26,7 +22,7 @@ use Rattle.elements.proofs.columns.+columns_of+columns_row.Lts-columns_
 use Rattle.elements.proofs.columns.columns_row.Reads as columns-row
 use Rattle.elements.proofs.columns.columns_row.Kinds as columns-row-kinds
 use Rattle.elements.proofs.columns.+columns_of+columns_row.Lts-columns_row as columns-row-lts
-use Rattle.descriptor.proofs.codes.kind_of.Reads as kind-of-reads
+use Rattle.descriptor.proofs.codes.is_compound.Reads as is-compound-reads
 use Rattle.descriptor.proofs.header.code_at.Reads as code-at-reads
 use Rattle.descriptor.proofs.header.size_at.Reads as size-at-reads
 use Rattle.descriptor.proofs.inside.inside_of.Reads as inside-of-reads
@@ -59,7 +55,7 @@ columns-row-below t =
     and 2 columns-row-kinds.ps (falls 2 columns-row-kinds.ps _<_ μ-columns-row t) columns-row.Pre
 
 abbrev columns-of-calls : ℕ → columns-of-lts.Claims
-columns-of-calls t = (code-at-reads.Asked, code-at-reads.Learnt, width-reads.Asked, width-reads.Learnt, scalar-column-reads.Asked, scalar-column-reads.Learnt, kind-of-reads.Asked, kind-of-reads.Learnt, inside-of-reads.Asked, inside-of-reads.Learnt, columns-row-below t, columns-row.Post)
+columns-of-calls t = (code-at-reads.Asked, code-at-reads.Learnt, width-reads.Asked, width-reads.Learnt, scalar-column-reads.Asked, scalar-column-reads.Learnt, is-compound-reads.Asked, is-compound-reads.Learnt, inside-of-reads.Asked, inside-of-reads.Learnt, columns-row-below t, columns-row.Post)
 
 columns-of-code-at-requires : (t : ℕ) → columns-of-lts.Need-code-at-requires (columns-of-calls t) (columns-of-at t) columns-of.Post
 columns-of-code-at-requires t c κs = let a = c .before .before .args in header-room (now (a .d)) (a .p) (c .before .before .pre .1 .0 .here)
@@ -76,28 +72,24 @@ columns-of-scalar-column-requires t c κs = (
 columns-of-returns : (t : ℕ) → columns-of-lts.Need-returns (columns-of-calls t) (columns-of-at t) columns-of.Post
 columns-of-returns t c = c .scalar-column .ensures
 
-columns-of-kind-of-requires : (t : ℕ) → columns-of-lts.Need-kind-of-requires (columns-of-calls t) (columns-of-at t) columns-of.Post
-columns-of-kind-of-requires t c κs = search needs
-
-columns-of-enum-told : (t : ℕ) → columns-of-lts.Need-enum-told (columns-of-calls t) (columns-of-at t) columns-of.Post
-columns-of-enum-told t c = search needs
+columns-of-is-compound-requires : (t : ℕ) → columns-of-lts.Need-is-compound-requires (columns-of-calls t) (columns-of-at t) columns-of.Post
+columns-of-is-compound-requires t c κs = search needs
 
 columns-of-inside-of-requires : (t : ℕ) → columns-of-lts.Need-inside-of-requires (columns-of-calls t) (columns-of-at t) columns-of.Post
-columns-of-inside-of-requires t c κs = c .before .before .before .before .before .before .before .before .pre .1 .0 .here
+columns-of-inside-of-requires t c κs = c .before .before .before .before .before .before .before .pre .1 .0 .here
 
 columns-of-sub-columns-row : (t : ℕ) → columns-of-lts.Need-sub-columns-row (columns-of-calls t) (columns-of-at t) columns-of.Post
-columns-of-sub-columns-row t c = let a = c .before .before .before .before .before .before .before .before .before .args in type-deep (now (a .d)) (a .p) (a .left) (c .before .before .before .before .before .before .before .before .before .pre .1 .0)
+columns-of-sub-columns-row t c = let b = c .before .before .before .before .before .before .before .before in type-deep (now (b .args .d)) (b .args .p) (b .args .left) (b .pre .1 .0)
 
 columns-of-columns-row-requires : (t : ℕ) → columns-of-lts.Need-columns-row-requires (columns-of-calls t) (columns-of-at t) columns-of.Post
-unfolding kindNamed hasInside
 columns-of-columns-row-requires t c κs =
-    let a = c .before .before .before .before .before .before .before .before .before .args in
-    let pre = c .before .before .before .before .before .before .before .before .before .pre in
+    let a = c .before .before .before .before .before .before .before .before .args in
+    let pre = c .before .before .before .before .before .before .before .before .pre in
     let type = pre .1 .0 in
-    let kind = known _ kinds.Cluster (kindOf (c .before .before .before .before .before .before .code-at .result)) (c .before .before .before .kind-of .ensures) (c .before .enum-told .given .1) ∙ ap kindOf (c .before .before .before .before .before .before .code-at .ensures) in (
+    let kind = ap (λ x. isCompound (kindOf x)) (sym (c .before .before .before .before .before .code-at .ensures)) ∙ sym (c .before .before .is-compound .ensures) ∙ c .before .if2 .taken in (
       omega (arith, type-deep (now (a .d)) (a .p) (a .left) type, pre .0),
       (
-        row-inside (now (a .d)) (a .p) (a .left) type _ (c .inside-of .ensures) (sym (ap hasInside kind)),
+        row-inside (now (a .d)) (a .p) (a .left) type _ (c .inside-of .ensures) (compound-inside _ kind),
         (
           (ahead-inside (now (a .d)) (a .p) (type .here) _ (c .inside-of .ensures) kind (a .front) (pre .1 .1 .0 .0), definite-inside (now (a .d)) (a .p) (type .here) _ (c .inside-of .ensures) kind (a .front) (pre .1 .1 .0 .1)),
           pre .1 .1 .1,
@@ -106,19 +98,19 @@ columns-of-columns-row-requires t c κs =
     )
 
 columns-of-returns-2 : (t : ℕ) → columns-of-lts.Need-returns-2 (columns-of-calls t) (columns-of-at t) columns-of.Post
-unfolding kindNamed
 columns-of-returns-2 t c =
-    let a = c .before .before .before .before .before .before .before .before .before .before .args in
-    let kind = known _ kinds.Cluster (kindOf (c .before .before .before .before .before .before .before .code-at .result)) (c .before .before .before .before .kind-of .ensures) (c .before .before .enum-told .given .1) ∙ ap kindOf (c .before .before .before .before .before .before .before .code-at .ensures) in
-    (c .columns-row .ensures .0, λ i l. kept-members (orderOf (a .o)) (now (a .s)) _ (now (a .d)) (a .p) (c .before .before .before .before .before .before .before .before .before .before .pre .1 .0 .here) _ (c .before .inside-of .ensures) kind (c .columns-row .ensures .1 i l))
+    let b = c .before .before .before .before .before .before .before .before .before in
+    let a = b .args in
+    let kind = ap (λ x. isCompound (kindOf x)) (sym (c .before .before .before .before .before .before .code-at .ensures)) ∙ sym (c .before .before .before .is-compound .ensures) ∙ c .before .before .if2 .taken in
+    (c .columns-row .ensures .0, λ i l. kept-members (orderOf (a .o)) (now (a .s)) _ (now (a .d)) (a .p) (b .pre .1 .0 .here) _ (c .before .inside-of .ensures) kind (c .columns-row .ensures .1 i l))
 
 columns-of-returns-3 : (t : ℕ) → columns-of-lts.Need-returns-3 (columns-of-calls t) (columns-of-at t) columns-of.Post
-unfolding kindIs
 columns-of-returns-3 t c =
-    let a = c .before .before .before .before .before .before .before .args in
+    let b = c .before .before .before .before .before .before .before in
+    let a = b .args in
     let wide = c .before .before .before .width .ensures ∙ ap widthOf (c .before .before .before .before .code-at .ensures) in
-    let no-cluster = not-kind cluster (0 ∷ 1 ∷ 2 ∷ 3 ∷ 4 ∷ 6 ∷ []) tt _ _ _ (c .before .kind-of .ensures) (c .before .before .before .before .code-at .ensures) (c .match .keys2) in
-    (omega arith, λ i l. kept-other (orderOf (a .o)) (now (a .s)) _ (now (a .d)) (a .p) (c .before .before .before .before .before .before .before .pre .1 .0 .here) (omega (arith, c .before .before .if1 .left)) no-cluster)
+    let simple = ap (λ x. isCompound (kindOf x)) (sym (c .before .before .before .before .code-at .ensures)) ∙ sym (c .before .is-compound .ensures) ∙ c .if2 .left in
+    (omega arith, λ i l. kept-other (orderOf (a .o)) (now (a .s)) _ (now (a .d)) (a .p) (b .pre .1 .0 .here) (omega (arith, c .before .before .if1 .left, wide)) simple)
 
 abbrev columns-row-Inv-loop : columns-row-lts.InvT-loop
 columns-row-Inv-loop d start k whole n s at o left p₀ front₀ count₀ i₀ p front count i = RowLoop d k start left front₀ (orderOf o) s whole at n p front count i
@@ -206,8 +198,7 @@ pub +columns-of+columns-row-spec : {M : Type 1} → statement M
     (columns-of-width-requires t)
     (columns-of-scalar-column-requires t)
     (columns-of-returns t)
-    (columns-of-kind-of-requires t)
-    (columns-of-enum-told t)
+    (columns-of-is-compound-requires t)
     (columns-of-inside-of-requires t)
     (columns-of-sub-columns-row t)
     (columns-of-columns-row-requires t)

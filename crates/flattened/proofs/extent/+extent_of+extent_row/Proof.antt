@@ -6,17 +6,17 @@ use mathlib.Core.List.{[], _∷_}
 use Prim.Native.Nat.{_+_, _-_, ℕ, _<_}
 use native.Mathlib.Omega.{arith}
 use denote.Ref.{now}
-use Rattle.descriptor.specs.Codes.{string, cluster, kindOf}
+use Rattle.descriptor.specs.Codes.{string, kindOf}
 use Rattle.descriptor.specs.Header.{sizeIn}
 use Rattle.descriptor.specs.Width.{widthOf}
-use Rattle.descriptor.specs.inner.Steps.{kindIs}
+use Rattle.descriptor.specs.inner.Steps.{kindIs, isCompound}
 use Rattle.descriptor.specs.declared.codes.Kind.the-variants as kinds
 use Rattle.descriptor.proofs.CodeKinds.{kindNamed, known}
 use Rattle.descriptor.proofs.Bodies.{header-room}
 use Rattle.flattened.specs.inner.Extent.{judges, joint}
 use Rattle.flattened.specs.declared.extent.Extent.the-variants.{Fixed}
 use Rattle.flattened.proofs.Named.{not-kind}
-use Rattle.flattened.proofs.Cases.{hasInside, row-inside, extent-number, extent-text, extent-members, extent-other}
+use Rattle.flattened.proofs.Cases.{compound-inside, row-inside, extent-number, extent-text, extent-members, extent-other}
 use Rattle.flattened.proofs.Types.{type-deep}
 use Rattle.flattened.proofs.ExtentTurns.{small-least, ExtentLoop, extent-begin, extent-turn, extent-few, extent-next, extent-done}
 use borrow.Fn.Kinds.{In}
@@ -27,6 +27,7 @@ use Rattle.flattened.proofs.extent.+extent_of+extent_row.Lts-extent_of 
 use Rattle.flattened.proofs.extent.extent_row.Reads as extent-row
 use Rattle.flattened.proofs.extent.extent_row.Kinds as extent-row-kinds
 use Rattle.flattened.proofs.extent.+extent_of+extent_row.Lts-extent_row as extent-row-lts
+use Rattle.descriptor.proofs.codes.is_compound.Reads as is-compound-reads
 use Rattle.descriptor.proofs.codes.kind_of.Reads as kind-of-reads
 use Rattle.descriptor.proofs.header.code_at.Reads as code-at-reads
 use Rattle.descriptor.proofs.header.size_at.Reads as size-at-reads
@@ -60,7 +61,7 @@ extent-row-below t =
     and 1 extent-row-kinds.ps (falls 1 extent-row-kinds.ps _<_ μ-extent-row t) extent-row.Pre
 
 abbrev extent-of-calls : ℕ → extent-of-lts.Claims
-extent-of-calls t = (code-at-reads.Asked, code-at-reads.Learnt, width-reads.Asked, width-reads.Learnt, rule-of-reads.Asked, rule-of-reads.Learnt, judges-reads.Asked, judges-reads.Learnt, kind-of-reads.Asked, kind-of-reads.Learnt, inside-of-reads.Asked, inside-of-reads.Learnt, extent-row-below t, extent-row.Post)
+extent-of-calls t = (code-at-reads.Asked, code-at-reads.Learnt, width-reads.Asked, width-reads.Learnt, rule-of-reads.Asked, rule-of-reads.Learnt, judges-reads.Asked, judges-reads.Learnt, kind-of-reads.Asked, kind-of-reads.Learnt, is-compound-reads.Asked, is-compound-reads.Learnt, inside-of-reads.Asked, inside-of-reads.Learnt, extent-row-below t, extent-row.Post)
 
 extent-of-code-at-requires : (t : ℕ) → extent-of-lts.Need-code-at-requires (extent-of-calls t) (extent-of-at t) extent-of.Post
 extent-of-code-at-requires t c κs = let a = c .before .args in header-room (now (a .d)) (a .p) (c .before .pre .1 .here)
@@ -94,38 +95,35 @@ extent-of-returns-2 t c =
     let kind = known _ kinds.Text (kindOf (c .before .before .before .before .before .code-at .result)) (c .before .before .kind-of .ensures) (c .enum-told .given .1) ∙ ap kindOf (c .before .before .before .before .before .code-at .ensures) in
     extent-text (now (a .d)) (a .p) (c .before .before .before .before .before .before .before .pre .1 .here) kind
 
-extent-of-enum-told-2 : (t : ℕ) → extent-of-lts.Need-enum-told-2 (extent-of-calls t) (extent-of-at t) extent-of.Post
-extent-of-enum-told-2 t c = search needs
+extent-of-is-compound-requires : (t : ℕ) → extent-of-lts.Need-is-compound-requires (extent-of-calls t) (extent-of-at t) extent-of.Post
+extent-of-is-compound-requires t c κs = search needs
 
 extent-of-inside-of-requires : (t : ℕ) → extent-of-lts.Need-inside-of-requires (extent-of-calls t) (extent-of-at t) extent-of.Post
 extent-of-inside-of-requires t c κs = c .before .before .before .before .before .before .before .before .pre .1 .here
 
 extent-of-sub-extent-row : (t : ℕ) → extent-of-lts.Need-sub-extent-row (extent-of-calls t) (extent-of-at t) extent-of.Post
-extent-of-sub-extent-row t c = let a = c .before .before .before .before .before .before .before .before .before .args in type-deep (now (a .d)) (a .p) (a .left) (c .before .before .before .before .before .before .before .before .before .pre .1)
+extent-of-sub-extent-row t c = let b = c .before .before .before .before .before .before .before .before .before in type-deep (now (b .args .d)) (b .args .p) (b .args .left) (b .pre .1)
 
 extent-of-extent-row-requires : (t : ℕ) → extent-of-lts.Need-extent-row-requires (extent-of-calls t) (extent-of-at t) extent-of.Post
-unfolding kindNamed hasInside
 extent-of-extent-row-requires t c κs =
-    let a = c .before .before .before .before .before .before .before .before .before .args in
-    let type = c .before .before .before .before .before .before .before .before .before .pre .1 in
-    let kind = known _ kinds.Cluster (kindOf (c .before .before .before .before .before .before .before .code-at .result)) (c .before .before .before .before .kind-of .ensures) (c .before .enum-told2 .given .1) ∙ ap kindOf (c .before .before .before .before .before .before .before .code-at .ensures) in
-    (omega (arith, type-deep (now (a .d)) (a .p) (a .left) type, c .before .before .before .before .before .before .before .before .before .pre .0), row-inside (now (a .d)) (a .p) (a .left) type _ (c .inside-of .ensures) (sym (ap hasInside kind)))
+    let b = c .before .before .before .before .before .before .before .before .before in
+    let kind = ap (λ x. isCompound (kindOf x)) (sym (c .before .before .before .before .before .before .before .code-at .ensures)) ∙ sym (c .before .before .is-compound .ensures) ∙ c .before .if2 .taken in
+    (omega (arith, type-deep (now (b .args .d)) (b .args .p) (b .args .left) (b .pre .1), b .pre .0), row-inside (now (b .args .d)) (b .args .p) (b .args .left) (b .pre .1) _ (c .inside-of .ensures) (compound-inside _ kind))
 
 extent-of-returns-3 : (t : ℕ) → extent-of-lts.Need-returns-3 (extent-of-calls t) (extent-of-at t) extent-of.Post
-unfolding kindNamed
 extent-of-returns-3 t c =
-    let a = c .before .before .before .before .before .before .before .before .before .before .args in
-    let kind = known _ kinds.Cluster (kindOf (c .before .before .before .before .before .before .before .before .code-at .result)) (c .before .before .before .before .before .kind-of .ensures) (c .before .before .enum-told2 .given .1) ∙ ap kindOf (c .before .before .before .before .before .before .before .before .code-at .ensures) in
-    c .extent-row .ensures ∙ extent-members (now (a .d)) (a .p) (c .before .before .before .before .before .before .before .before .before .before .pre .1 .here) _ (c .before .inside-of .ensures) kind
+    let b = c .before .before .before .before .before .before .before .before .before .before in
+    let kind = ap (λ x. isCompound (kindOf x)) (sym (c .before .before .before .before .before .before .before .before .code-at .ensures)) ∙ sym (c .before .before .before .is-compound .ensures) ∙ c .before .before .if2 .taken in
+    c .extent-row .ensures ∙ extent-members (now (b .args .d)) (b .args .p) (b .pre .1 .here) _ (c .before .inside-of .ensures) kind
 
 extent-of-returns-4 : (t : ℕ) → extent-of-lts.Need-returns-4 (extent-of-calls t) (extent-of-at t) extent-of.Post
 unfolding kindIs
 extent-of-returns-4 t c =
-    let a = c .before .before .before .before .before .before .before .args in
-    let wide = c .before .before .before .before .width .ensures ∙ ap widthOf (c .before .before .before .before .before .code-at .ensures) in
-    let no-text = not-kind string (0 ∷ 1 ∷ 2 ∷ 4 ∷ 5 ∷ 6 ∷ []) tt _ _ _ (c .before .before .kind-of .ensures) (c .before .before .before .before .before .code-at .ensures) (c .before .match .keys2) in
-    let no-cluster = not-kind cluster (0 ∷ 1 ∷ 2 ∷ 3 ∷ 4 ∷ 6 ∷ []) tt _ _ _ (c .before .before .kind-of .ensures) (c .before .before .before .before .before .code-at .ensures) (c .match2 .keys2) in
-    extent-other (now (a .d)) (a .p) (c .before .before .before .before .before .before .before .pre .1 .here) (omega (arith, c .before .before .before .if1 .left)) no-text no-cluster
+    let a = c .before .before .before .before .before .before .before .before .args in
+    let wide = c .before .before .before .before .before .width .ensures ∙ ap widthOf (c .before .before .before .before .before .before .code-at .ensures) in
+    let no-text = not-kind string (0 ∷ 1 ∷ 2 ∷ 4 ∷ 5 ∷ 6 ∷ 7 ∷ []) tt _ _ _ (c .before .before .before .kind-of .ensures) (c .before .before .before .before .before .before .code-at .ensures) (c .before .before .match .keys2) in
+    let simple = ap (λ x. isCompound (kindOf x)) (sym (c .before .before .before .before .before .before .code-at .ensures)) ∙ sym (c .before .is-compound .ensures) ∙ c .if2 .left in
+    extent-other (now (a .d)) (a .p) (c .before .before .before .before .before .before .before .before .pre .1 .here) (omega (arith, c .before .before .before .before .if1 .left)) no-text simple
 
 abbrev extent-row-Inv-loop : extent-row-lts.InvT-loop
 extent-row-Inv-loop d start k left p₀ extent₀ i₀ p extent i = ExtentLoop d k start left p extent i
@@ -199,7 +197,7 @@ pub +extent-of+extent-row-spec : {M : Type 1} → statement M
     (extent-of-kind-of-requires t)
     (extent-of-enum-told t)
     (extent-of-returns-2 t)
-    (extent-of-enum-told-2 t)
+    (extent-of-is-compound-requires t)
     (extent-of-inside-of-requires t)
     (extent-of-sub-extent-row t)
     (extent-of-extent-row-requires t)

@@ -36,14 +36,14 @@ returns-2 : tie.Need-returns-2
 unfolding kindIs
 returns-2 c =
     let a = c .before .before .before .before .before .args in
-    let other = not-kind enumeration (0 ∷ 2 ∷ 3 ∷ 4 ∷ 5 ∷ 6 ∷ []) tt _ _ _ (c .before .before .kind-of .ensures) (c .before .before .before .code-at .ensures) (c .before .match .keys2) in
+    let other = not-kind enumeration (0 ∷ 2 ∷ 3 ∷ 4 ∷ 5 ∷ 6 ∷ 7 ∷ []) tt _ _ _ (c .before .before .kind-of .ensures) (c .before .before .before .code-at .ensures) (c .before .match .keys2) in
     rule-flag (now (a .d)) (a .p) (c .before .before .before .before .before .pre) other (sym (c .before .before .before .code-at .ensures) ∙ c .if1 .taken)
 
 returns-3 : tie.Need-returns-3
 unfolding kindIs
 returns-3 c =
     let a = c .before .before .before .before .before .args in
-    let other = not-kind enumeration (0 ∷ 2 ∷ 3 ∷ 4 ∷ 5 ∷ 6 ∷ []) tt _ _ _ (c .before .before .kind-of .ensures) (c .before .before .before .code-at .ensures) (c .before .match .keys2) in
+    let other = not-kind enumeration (0 ∷ 2 ∷ 3 ∷ 4 ∷ 5 ∷ 6 ∷ 7 ∷ []) tt _ _ _ (c .before .before .kind-of .ensures) (c .before .before .before .code-at .ensures) (c .before .match .keys2) in
     rule-any (now (a .d)) (a .p) (c .before .before .before .before .before .pre) other (λ e. c .if1 .left (c .before .before .before .code-at .ensures ∙ e))
 
 pub rule-of-spec : {M : Type 1} → statement M

@@ -32,7 +32,7 @@ returns-2 : tie.Need-returns-2
 unfolding kindIs
 returns-2 c =
     cluster-not (now (c .before .before .before .before .args .d)) (c .before .before .before .before .pre)
-    (not-kind cluster (0 ∷ 1 ∷ 2 ∷ 3 ∷ 4 ∷ 6 ∷ []) tt _ _ _ (c .before .kind-of .ensures) (c .before .before .code-at .ensures) (c .match .keys2))
+    (not-kind cluster (0 ∷ 1 ∷ 2 ∷ 3 ∷ 4 ∷ 6 ∷ 7 ∷ []) tt _ _ _ (c .before .kind-of .ensures) (c .before .before .code-at .ensures) (c .match .keys2))
 
 pub is-cluster-spec : {M : Type 1} → statement M
 is-cluster-spec =

@@ -118,8 +118,8 @@ code-at-requires c κs = let s = now (c .before .before .before .before .before 
     let o = w .opened in
     omega (arith, o .size, o .least, o .inside)
 
-add-shape : tie.Need-add-shape Inv-loop μ-loop
-add-shape c = let s = now (c .before .before .before .before .before .before .before .args .d) in
+add-row-shape : tie.Need-add-row-shape Inv-loop μ-loop
+add-row-shape c = let s = now (c .before .before .before .before .before .before .before .args .d) in
     let l = c .before .before .before .loop in
     let goal = filled s depthLimit 1 emptyTable in
     let t : Table = record { rows = l .rows; n = l .n; at = l .at } in
@@ -129,9 +129,9 @@ add-shape c = let s = now (c .before .before .before .before .before .before .be
     let o = w .opened in
     omega (arith, o .size, o .inside, r .pre .small, c .before .size-at .ensures .eq)
 
-shape-requires : tie.Need-shape-requires Inv-loop μ-loop
+row-shape-requires : tie.Need-row-shape-requires Inv-loop μ-loop
 unfolding isRead
-shape-requires c κs = let s = now (c .before .before .before .before .before .before .before .args .d) in
+row-shape-requires c κs = let s = now (c .before .before .before .before .before .before .before .args .d) in
     let l = c .before .before .before .loop in
     let goal = filled s depthLimit 1 emptyTable in
     let t : Table = record { rows = l .rows; n = l .n; at = l .at } in
@@ -192,7 +192,7 @@ loop-again-2 c = let s = now (c .before .before .before .before .before .before 
     let r : Resuming s goal t (l .«open») (l .level) (suc k) = resume-as s goal t (l .«open») (l .level) (l .k) (l .level) (suc k) (l .inv) refl (omega (arith, c .before .before .before .before .before .if1 .left)) in
     let w = first s (leftAt (l .level)) k t (r .pre) in
     let o = w .opened in
-    resume-as s goal _ _ _ _ _ _ (resume-open s goal t (l .«open») (l .level) k r w (c .before .before .before .before .size-at .result) (c .before .before .before .before .size-at .ensures .eq) (c .before .before .before .code-at .result) (c .before .before .before .code-at .ensures) (c .before .before .shape .result) (c .before .before .shape .ensures)) (omega arith) refl
+    resume-as s goal _ _ _ _ _ _ (resume-open s goal t (l .«open») (l .level) k r w (c .before .before .before .before .size-at .result) (c .before .before .before .before .size-at .ensures .eq) (c .before .before .before .code-at .result) (c .before .before .before .code-at .ensures) (c .before .before .row-shape .result) (c .before .before .row-shape .ensures)) (omega arith) refl
 
 add-row-at-2 : tie.Need-add-row-at-2 Inv-loop μ-loop
 add-row-at-2 c = omega (arith, c .before .before .before .before .before .before .loop .inv .deep)
@@ -206,7 +206,7 @@ row-at-requires-2 c κs = let s = now (c .before .before .before .before .before
     let r : Resuming s goal t (l .«open») (l .level) (suc k) = resume-as s goal t (l .«open») (l .level) (l .k) (l .level) (suc k) (l .inv) refl (omega (arith, c .before .before .before .before .before .if1 .left)) in
     let w = first s (leftAt (l .level)) k t (r .pre) in
     let o = w .opened in
-    leaf-row s goal t (l .«open») (l .level) k r w (c .before .before .before .before .size-at .result) (c .before .before .before .before .size-at .ensures .eq) (c .before .before .before .code-at .result) (c .before .before .before .code-at .ensures) (c .before .before .shape .result) (c .before .before .shape .ensures) (omega (arith, c .if3 .left))
+    leaf-row s goal t (l .«open») (l .level) k r w (c .before .before .before .before .size-at .result) (c .before .before .before .before .size-at .ensures .eq) (c .before .before .before .code-at .result) (c .before .before .before .code-at .ensures) (c .before .before .row-shape .result) (c .before .before .row-shape .ensures) (omega (arith, c .if3 .left))
 
 mul-rows-2 : tie.Need-mul-rows-2 Inv-loop μ-loop
 mul-rows-2 c = let s = now (c .before .before .before .before .before .before .before .before .before .before .before .args .d) in
@@ -275,7 +275,7 @@ loop-again-3 c = let s = now (c .before .before .before .before .before .before 
     let r : Resuming s goal t (l .«open») (l .level) (suc k) = resume-as s goal t (l .«open») (l .level) (l .k) (l .level) (suc k) (l .inv) refl (omega (arith, c .before .before .before .before .before .before .if1 .left)) in
     let w = first s (leftAt (l .level)) k t (r .pre) in
     let o = w .opened in
-    resume-leaf s goal t (l .«open») (l .level) k r w (c .before .before .before .before .before .size-at .result) (c .before .before .before .before .before .size-at .ensures .eq) (c .before .before .before .before .code-at .result) (c .before .before .before .before .code-at .ensures) (c .before .before .before .shape .result) (c .before .before .before .shape .ensures) (omega (arith, c .before .if3 .left)) (c .row-at2 .result) (c .row-at2 .ensures)
+    resume-leaf s goal t (l .«open») (l .level) k r w (c .before .before .before .before .before .size-at .result) (c .before .before .before .before .before .size-at .ensures .eq) (c .before .before .before .before .code-at .result) (c .before .before .before .before .code-at .ensures) (c .before .before .before .row-shape .result) (c .before .before .before .row-shape .ensures) (omega (arith, c .before .if3 .left)) (c .row-at2 .result) (c .row-at2 .ensures)
 
 pub tabulate-spec : {M : Type 1} → statement M
 tabulate-spec =
@@ -299,8 +299,8 @@ tabulate-spec =
     loop-again
     size-at-requires
     code-at-requires
-    add-shape
-    shape-requires
+    add-row-shape
+    row-shape-requires
     sub-t27
     mul-open
     array-set-from-open

@@ -8,18 +8,18 @@ use native.Mathlib.Omega.{arith}
 use denote.Ref.{now}
 use Rattle.descriptor.specs.Codes.{string, array, kindOf}
 use Rattle.descriptor.specs.Width.{widthOf}
-use Rattle.descriptor.specs.inner.Steps.{kindIs}
+use Rattle.descriptor.specs.inner.Steps.{kindIs, isCompound}
 use Rattle.descriptor.specs.declared.codes.Kind.the-variants as kinds
 use Rattle.descriptor.proofs.CodeKinds.{kindNamed, known}
 use Rattle.descriptor.proofs.Bodies.{header-room}
 use Rattle.flattened.specs.Walk.{walk, walkAll}
 use Rattle.flattened.specs.inner.Order.{orderOf}
 use Rattle.flattened.specs.inner.Types.{typeAt, typesAt}
-use Rattle.flattened.proofs.Cases.{hasInside, row-inside, is-cluster}
+use Rattle.flattened.proofs.Cases.{compound-inside, row-inside, compound}
 use Rattle.flattened.proofs.Named.{not-kind}
 use Rattle.flattened.proofs.Repeats.{repeat-one}
 use Rattle.flattened.proofs.Types.{type-deep, type-solid, alone}
-use Rattle.flattened.proofs.KindWalks.{value-text, value-cluster, value-array, walk-texts, walk-clusters, walk-alone}
+use Rattle.flattened.proofs.KindWalks.{value-text, value-compound, value-array, walk-texts, walk-compounds, walk-alone}
 use Rattle.turning.specs.inner.Tokens.{Turned}
 use Rattle.turning.proofs.Remaining.{RepeatTurns, repeat-begin, repeat-here, repeat-next, repeat-end, remains-last}
 use Rattle.turning.proofs.Parts.{turnable-as, turned-as, turned-at, scalars-done, scalars-room, scalar-room, scalar-done, array-sizes, array-left, RowTurns, row-begin, row-here, row-ready, row-next, row-end}
@@ -43,6 +43,7 @@ use Rattle.columns.proofs.even.turn_even.Reads as turn-even-reads
 use Rattle.turning.proofs.sizes.turn_sizes.Reads as turn-sizes-reads
 use Rattle.turning.proofs.texts.turn_text.Reads as turn-text-reads
 use Rattle.turning.proofs.texts.turn_texts.Reads as turn-texts-reads
+use Rattle.descriptor.proofs.codes.is_compound.Reads as is-compound-reads
 use Rattle.descriptor.proofs.codes.kind_of.Reads as kind-of-reads
 use Rattle.descriptor.proofs.header.code_at.Reads as code-at-reads
 use Rattle.descriptor.proofs.header.size_at.Reads as size-at-reads
@@ -90,7 +91,7 @@ abbrev turn-value-calls : ℕ → turn-value-lts.Claims
 turn-value-calls t = (code-at-reads.Asked, code-at-reads.Learnt, kind-of-reads.Asked, kind-of-reads.Learnt, turn-text-reads.Asked, turn-text-reads.Learnt, inside-of-reads.Asked, inside-of-reads.Learnt, turn-sizes-reads.Asked, turn-sizes-reads.Learnt, turn-values-below t, turn-values.Post, turn-rows-below t, turn-rows.Post)
 
 abbrev turn-values-calls : ℕ → turn-values-lts.Claims
-turn-values-calls t = (code-at-reads.Asked, code-at-reads.Learnt, width-reads.Asked, width-reads.Learnt, turn-scalars-reads.Asked, turn-scalars-reads.Learnt, kind-of-reads.Asked, kind-of-reads.Learnt, turn-texts-reads.Asked, turn-texts-reads.Learnt, even-step-reads.Asked, even-step-reads.Learnt, turn-even-reads.Asked, turn-even-reads.Learnt, inside-of-reads.Asked, inside-of-reads.Learnt, turn-rows-below t, turn-rows.Post)
+turn-values-calls t = (code-at-reads.Asked, code-at-reads.Learnt, width-reads.Asked, width-reads.Learnt, turn-scalars-reads.Asked, turn-scalars-reads.Learnt, kind-of-reads.Asked, kind-of-reads.Learnt, turn-texts-reads.Asked, turn-texts-reads.Learnt, is-compound-reads.Asked, is-compound-reads.Learnt, even-step-reads.Asked, even-step-reads.Learnt, turn-even-reads.Asked, turn-even-reads.Learnt, inside-of-reads.Asked, inside-of-reads.Learnt, turn-rows-below t, turn-rows.Post)
 
 abbrev turn-rows-Inv-loop2 : turn-rows-lts.InvT-loop2
 turn-rows-Inv-loop2 d start k n s out₀ from o left at₀ i p₀ j₀ out at p j = RowTurns d (orderOf o) s out₀ k start at₀ left out p at j
@@ -303,14 +304,14 @@ turn-value-sub-turn-rows : (t : ℕ) → turn-value-lts.Need-sub-turn-rows (turn
 turn-value-sub-turn-rows t c = let a = c .before .before .before .before .before .before .before .before .before .args in type-deep (now (a .d)) (a .p) (a .left) (c .before .before .before .before .before .before .before .before .before .pre .1 .0)
 
 turn-value-turn-rows-requires : (t : ℕ) → turn-value-lts.Need-turn-rows-requires (turn-value-calls t) (turn-value-at t) turn-value.Post
-unfolding kindIs hasInside
+unfolding kindIs
 turn-value-turn-rows-requires t c κs =
     let a = c .before .before .before .before .before .before .before .before .before .args in
-    let no-text = not-kind string (0 ∷ 1 ∷ 2 ∷ 4 ∷ 5 ∷ 6 ∷ []) tt _ _ _ (c .before .before .before .before .kind-of .ensures) (c .before .before .before .before .before .code-at .ensures) (c .before .before .before .match .keys2) in
-    let no-array = not-kind array (0 ∷ 1 ∷ 2 ∷ 3 ∷ 5 ∷ 6 ∷ []) tt _ _ _ (c .before .before .before .before .kind-of .ensures) (c .before .before .before .before .before .code-at .ensures) (c .before .match2 .keys2) in
-    let kind = is-cluster (now (a .d)) (a .p) (c .before .before .before .before .before .before .before .before .before .pre .1 .0 .here) (c .before .before .before .before .before .before .before .before .before .pre .1 .1 .0) no-text no-array in
-    let same = value-cluster (now (a .d)) (a .p) (c .before .before .before .before .before .before .before .before .before .pre .1 .0 .here) (orderOf (a .o)) (now (a .s)) (a .at) _ (c .before .before .inside-of .ensures) kind in
-    (omega (arith, type-deep (now (a .d)) (a .p) (a .left) (c .before .before .before .before .before .before .before .before .before .pre .1 .0), c .before .before .before .before .before .before .before .before .before .pre .0), (row-inside (now (a .d)) (a .p) (a .left) (c .before .before .before .before .before .before .before .before .before .pre .1 .0) _ (c .before .before .inside-of .ensures) (sym (ap hasInside kind)), turnable-as _ _ (now (a .s)) (now (a .out)) (a .at) (same ∙ sym (repeat-one _ (a .at))) (c .before .before .before .before .before .before .before .before .before .pre .1 .1 .1)))
+    let no-text = not-kind string (0 ∷ 1 ∷ 2 ∷ 4 ∷ 5 ∷ 6 ∷ 7 ∷ []) tt _ _ _ (c .before .before .before .before .kind-of .ensures) (c .before .before .before .before .before .code-at .ensures) (c .before .before .before .match .keys2) in
+    let no-array = not-kind array (0 ∷ 1 ∷ 2 ∷ 3 ∷ 5 ∷ 6 ∷ 7 ∷ []) tt _ _ _ (c .before .before .before .before .kind-of .ensures) (c .before .before .before .before .before .code-at .ensures) (c .before .match2 .keys2) in
+    let kind = compound (now (a .d)) (a .p) (c .before .before .before .before .before .before .before .before .before .pre .1 .0 .here) (c .before .before .before .before .before .before .before .before .before .pre .1 .1 .0) no-text no-array in
+    let same = value-compound (now (a .d)) (a .p) (c .before .before .before .before .before .before .before .before .before .pre .1 .0 .here) (orderOf (a .o)) (now (a .s)) (a .at) _ (c .before .before .inside-of .ensures) kind in
+    (omega (arith, type-deep (now (a .d)) (a .p) (a .left) (c .before .before .before .before .before .before .before .before .before .pre .1 .0), c .before .before .before .before .before .before .before .before .before .pre .0), (row-inside (now (a .d)) (a .p) (a .left) (c .before .before .before .before .before .before .before .before .before .pre .1 .0) _ (c .before .before .inside-of .ensures) (compound-inside _ kind), turnable-as _ _ (now (a .s)) (now (a .out)) (a .at) (same ∙ sym (repeat-one _ (a .at))) (c .before .before .before .before .before .before .before .before .before .pre .1 .1 .1)))
 
 turn-value-same-length-3 : (t : ℕ) → turn-value-lts.Need-same-length-3 (turn-value-calls t) (turn-value-at t) turn-value.Post
 turn-value-same-length-3 t c = search needs
@@ -319,10 +320,10 @@ turn-value-returns-3 : (t : ℕ) → turn-value-lts.Need-returns-3 (turn-value-c
 unfolding kindIs
 turn-value-returns-3 t c =
     let a = c .before .before .before .before .before .before .before .before .before .before .before .before .args in
-    let no-text = not-kind string (0 ∷ 1 ∷ 2 ∷ 4 ∷ 5 ∷ 6 ∷ []) tt _ _ _ (c .before .before .before .before .before .before .before .kind-of .ensures) (c .before .before .before .before .before .before .before .before .code-at .ensures) (c .before .before .before .before .before .before .match .keys2) in
-    let no-array = not-kind array (0 ∷ 1 ∷ 2 ∷ 3 ∷ 5 ∷ 6 ∷ []) tt _ _ _ (c .before .before .before .before .before .before .before .kind-of .ensures) (c .before .before .before .before .before .before .before .before .code-at .ensures) (c .before .before .before .before .match2 .keys2) in
-    let kind = is-cluster (now (a .d)) (a .p) (c .before .before .before .before .before .before .before .before .before .before .before .before .pre .1 .0 .here) (c .before .before .before .before .before .before .before .before .before .before .before .before .pre .1 .1 .0) no-text no-array in
-    let same = value-cluster (now (a .d)) (a .p) (c .before .before .before .before .before .before .before .before .before .before .before .before .pre .1 .0 .here) (orderOf (a .o)) (now (a .s)) (a .at) _ (c .before .before .before .before .before .inside-of .ensures) kind in
+    let no-text = not-kind string (0 ∷ 1 ∷ 2 ∷ 4 ∷ 5 ∷ 6 ∷ 7 ∷ []) tt _ _ _ (c .before .before .before .before .before .before .before .kind-of .ensures) (c .before .before .before .before .before .before .before .before .code-at .ensures) (c .before .before .before .before .before .before .match .keys2) in
+    let no-array = not-kind array (0 ∷ 1 ∷ 2 ∷ 3 ∷ 5 ∷ 6 ∷ 7 ∷ []) tt _ _ _ (c .before .before .before .before .before .before .before .kind-of .ensures) (c .before .before .before .before .before .before .before .before .code-at .ensures) (c .before .before .before .before .match2 .keys2) in
+    let kind = compound (now (a .d)) (a .p) (c .before .before .before .before .before .before .before .before .before .before .before .before .pre .1 .0 .here) (c .before .before .before .before .before .before .before .before .before .before .before .before .pre .1 .1 .0) no-text no-array in
+    let same = value-compound (now (a .d)) (a .p) (c .before .before .before .before .before .before .before .before .before .before .before .before .pre .1 .0 .here) (orderOf (a .o)) (now (a .s)) (a .at) _ (c .before .before .before .before .before .inside-of .ensures) kind in
     turned-as _ _ (now (a .s)) (now (a .out)) _ _ (repeat-one _ (a .at) ∙ sym same) (c .before .before .turn-rows .ensures)
 
 turn-values-code-at-requires : (t : ℕ) → turn-values-lts.Need-code-at-requires (turn-values-calls t) (turn-values-at t) turn-values.Post
@@ -377,8 +378,8 @@ turn-values-returns-2 t c =
     let kind = known _ kinds.Text (kindOf (c .before .before .before .before .before .before .before .before .before .code-at .result)) (c .before .before .before .before .before .before .kind-of .ensures) (c .before .before .before .before .enum-told .given .1) ∙ ap kindOf (c .before .before .before .before .before .before .before .before .before .code-at .ensures) in
     turned-as _ _ (now (a .s)) (now (a .out)) _ _ (walk-texts (now (a .d)) (a .p) (a .left) (c .before .before .before .before .before .before .before .before .before .before .before .before .before .pre .1 .0) (orderOf (a .o)) (now (a .s)) (a .n) (a .from) kind) (c .before .before .turn-texts .ensures)
 
-turn-values-enum-told-2 : (t : ℕ) → turn-values-lts.Need-enum-told-2 (turn-values-calls t) (turn-values-at t) turn-values.Post
-turn-values-enum-told-2 t c = search needs
+turn-values-is-compound-requires : (t : ℕ) → turn-values-lts.Need-is-compound-requires (turn-values-calls t) (turn-values-at t) turn-values.Post
+turn-values-is-compound-requires t c κs = search needs
 
 turn-values-even-step-requires : (t : ℕ) → turn-values-lts.Need-even-step-requires (turn-values-calls t) (turn-values-at t) turn-values.Post
 turn-values-even-step-requires t c κs = c .before .before .before .before .before .before .before .before .before .before .pre .1 .0
@@ -386,17 +387,17 @@ turn-values-even-step-requires t c κs = c .before .before .before .before .befo
 turn-values-turn-even-requires : (t : ℕ) → turn-values-lts.Need-turn-even-requires (turn-values-calls t) (turn-values-at t) turn-values.Post
 turn-values-turn-even-requires t c κs =
     let a = c .before .before .before .before .before .before .before .before .before .before .before .before .before .args in
-    (c .before .before .before .before .before .before .before .before .before .before .before .before .before .pre .1 .0, ((c .before .before .even-step .ensures .even (omega (arith, c .before .if2 .taken))), even-laid (typeAt (now (a .d)) (a .p)) (c .before .before .even-step .result) (c .before .before .even-step .ensures .even (omega (arith, c .before .if2 .taken))) (orderOf (a .o)) (now (a .s)) (a .n) (a .from) (now (a .out)) (c .before .before .even-step .ensures .some (omega (arith, c .before .if2 .taken))) (c .before .before .before .before .before .before .before .before .before .before .before .before .before .pre .1 .1)))
+    (c .before .before .before .before .before .before .before .before .before .before .before .before .before .pre .1 .0, ((c .before .before .even-step .ensures .even (omega (arith, c .before .if3 .taken))), even-laid (typeAt (now (a .d)) (a .p)) (c .before .before .even-step .result) (c .before .before .even-step .ensures .even (omega (arith, c .before .if3 .taken))) (orderOf (a .o)) (now (a .s)) (a .n) (a .from) (now (a .out)) (c .before .before .even-step .ensures .some (omega (arith, c .before .if3 .taken))) (c .before .before .before .before .before .before .before .before .before .before .before .before .before .pre .1 .1)))
 
 turn-values-mul-result-2 : (t : ℕ) → turn-values-lts.Need-mul-result-2 (turn-values-calls t) (turn-values-at t) turn-values.Post
 turn-values-mul-result-2 t c =
     let a = c .before .before .before .before .before .before .before .before .before .before .before .before .before .before .before .before .args in
-    omega (arith, even-laid (typeAt (now (a .d)) (a .p)) (c .before .before .before .before .before .even-step .result) (c .before .before .before .before .before .even-step .ensures .even (omega (arith, c .before .before .before .before .if2 .taken))) (orderOf (a .o)) (now (a .s)) (a .n) (a .from) (now (a .out)) (c .before .before .before .before .before .even-step .ensures .some (omega (arith, c .before .before .before .before .if2 .taken))) (c .before .before .before .before .before .before .before .before .before .before .before .before .before .before .before .before .pre .1 .1) .inside)
+    omega (arith, even-laid (typeAt (now (a .d)) (a .p)) (c .before .before .before .before .before .even-step .result) (c .before .before .before .before .before .even-step .ensures .even (omega (arith, c .before .before .before .before .if3 .taken))) (orderOf (a .o)) (now (a .s)) (a .n) (a .from) (now (a .out)) (c .before .before .before .before .before .even-step .ensures .some (omega (arith, c .before .before .before .before .if3 .taken))) (c .before .before .before .before .before .before .before .before .before .before .before .before .before .before .before .before .pre .1 .1) .inside)
 
 turn-values-add-result-2 : (t : ℕ) → turn-values-lts.Need-add-result-2 (turn-values-calls t) (turn-values-at t) turn-values.Post
 turn-values-add-result-2 t c =
     let a = c .before .before .before .before .before .before .before .before .before .before .before .before .before .before .before .before .args in
-    omega (arith, even-laid (typeAt (now (a .d)) (a .p)) (c .before .before .before .before .before .even-step .result) (c .before .before .before .before .before .even-step .ensures .even (omega (arith, c .before .before .before .before .if2 .taken))) (orderOf (a .o)) (now (a .s)) (a .n) (a .from) (now (a .out)) (c .before .before .before .before .before .even-step .ensures .some (omega (arith, c .before .before .before .before .if2 .taken))) (c .before .before .before .before .before .before .before .before .before .before .before .before .before .before .before .before .pre .1 .1) .inside)
+    omega (arith, even-laid (typeAt (now (a .d)) (a .p)) (c .before .before .before .before .before .even-step .result) (c .before .before .before .before .before .even-step .ensures .even (omega (arith, c .before .before .before .before .if3 .taken))) (orderOf (a .o)) (now (a .s)) (a .n) (a .from) (now (a .out)) (c .before .before .before .before .before .even-step .ensures .some (omega (arith, c .before .before .before .before .if3 .taken))) (c .before .before .before .before .before .before .before .before .before .before .before .before .before .before .before .before .pre .1 .1) .inside)
 
 turn-values-same-length-3 : (t : ℕ) → turn-values-lts.Need-same-length-3 (turn-values-calls t) (turn-values-at t) turn-values.Post
 turn-values-same-length-3 t c = search needs
@@ -404,7 +405,7 @@ turn-values-same-length-3 t c = search needs
 turn-values-returns-3 : (t : ℕ) → turn-values-lts.Need-returns-3 (turn-values-calls t) (turn-values-at t) turn-values.Post
 turn-values-returns-3 t c =
     let a = c .before .before .before .before .before .before .before .before .before .before .before .before .before .before .before .before .args in
-    even-done (typeAt (now (a .d)) (a .p)) (c .before .before .before .before .before .even-step .result) (c .before .before .before .before .before .even-step .ensures .even (omega (arith, c .before .before .before .before .if2 .taken))) (orderOf (a .o)) (now (a .s)) (a .n) (a .from) (now (a .out)) _ (c .before .before .before .before .before .before .before .before .before .before .before .before .before .before .before .before .pre .1 .1) (c .before .before .turn-even .ensures)
+    even-done (typeAt (now (a .d)) (a .p)) (c .before .before .before .before .before .even-step .result) (c .before .before .before .before .before .even-step .ensures .even (omega (arith, c .before .before .before .before .if3 .taken))) (orderOf (a .o)) (now (a .s)) (a .n) (a .from) (now (a .out)) _ (c .before .before .before .before .before .before .before .before .before .before .before .before .before .before .before .before .pre .1 .1) (c .before .before .turn-even .ensures)
 
 turn-values-inside-of-requires : (t : ℕ) → turn-values-lts.Need-inside-of-requires (turn-values-calls t) (turn-values-at t) turn-values.Post
 turn-values-inside-of-requires t c κs = c .before .before .before .before .before .before .before .before .before .before .before .before .pre .1 .0 .here
@@ -415,34 +416,32 @@ turn-values-sub-turn-rows t c =
     type-deep (now (a .d)) (a .p) (a .left) (c .before .before .before .before .before .before .before .before .before .before .before .before .before .before .pre .1 .0)
 
 turn-values-turn-rows-requires : (t : ℕ) → turn-values-lts.Need-turn-rows-requires (turn-values-calls t) (turn-values-at t) turn-values.Post
-unfolding kindNamed hasInside
 turn-values-turn-rows-requires t c κs =
     let a = c .before .before .before .before .before .before .before .before .before .before .before .before .before .before .args in
-    let kind = known _ kinds.Cluster (kindOf (c .before .before .before .before .before .before .before .before .before .before .code-at .result)) (c .before .before .before .before .before .before .before .kind-of .ensures) (c .before .before .before .before .enum-told2 .given .1) ∙ ap kindOf (c .before .before .before .before .before .before .before .before .before .before .code-at .ensures) in
-    (omega (arith, type-deep (now (a .d)) (a .p) (a .left) (c .before .before .before .before .before .before .before .before .before .before .before .before .before .before .pre .1 .0), c .before .before .before .before .before .before .before .before .before .before .before .before .before .before .pre .0), (row-inside (now (a .d)) (a .p) (a .left) (c .before .before .before .before .before .before .before .before .before .before .before .before .before .before .pre .1 .0) _ (c .before .inside-of .ensures) (sym (ap hasInside kind)), turnable-as _ _ (now (a .s)) (now (a .out)) (a .from) (sym (walk-clusters (now (a .d)) (a .p) (a .left) (c .before .before .before .before .before .before .before .before .before .before .before .before .before .before .pre .1 .0) (orderOf (a .o)) (now (a .s)) (a .n) (a .from) _ (c .before .inside-of .ensures) kind)) (c .before .before .before .before .before .before .before .before .before .before .before .before .before .before .pre .1 .1)))
+    let kind = ap (λ x. isCompound (kindOf x)) (sym (c .before .before .before .before .before .before .before .before .before .before .code-at .ensures)) ∙ sym (c .before .before .before .before .before .is-compound .ensures) ∙ c .before .before .before .before .if2 .taken in
+    (omega (arith, type-deep (now (a .d)) (a .p) (a .left) (c .before .before .before .before .before .before .before .before .before .before .before .before .before .before .pre .1 .0), c .before .before .before .before .before .before .before .before .before .before .before .before .before .before .pre .0), (row-inside (now (a .d)) (a .p) (a .left) (c .before .before .before .before .before .before .before .before .before .before .before .before .before .before .pre .1 .0) _ (c .before .inside-of .ensures) (compound-inside _ kind), turnable-as _ _ (now (a .s)) (now (a .out)) (a .from) (sym (walk-compounds (now (a .d)) (a .p) (a .left) (c .before .before .before .before .before .before .before .before .before .before .before .before .before .before .pre .1 .0) (orderOf (a .o)) (now (a .s)) (a .n) (a .from) _ (c .before .inside-of .ensures) kind)) (c .before .before .before .before .before .before .before .before .before .before .before .before .before .before .pre .1 .1)))
 
 turn-values-same-length-4 : (t : ℕ) → turn-values-lts.Need-same-length-4 (turn-values-calls t) (turn-values-at t) turn-values.Post
 turn-values-same-length-4 t c = search needs
 
 turn-values-returns-4 : (t : ℕ) → turn-values-lts.Need-returns-4 (turn-values-calls t) (turn-values-at t) turn-values.Post
-unfolding kindNamed
 turn-values-returns-4 t c =
     let a = c .before .before .before .before .before .before .before .before .before .before .before .before .before .before .before .before .before .args in
-    let kind = known _ kinds.Cluster (kindOf (c .before .before .before .before .before .before .before .before .before .before .before .before .before .code-at .result)) (c .before .before .before .before .before .before .before .before .before .before .kind-of .ensures) (c .before .before .before .before .before .before .before .enum-told2 .given .1) ∙ ap kindOf (c .before .before .before .before .before .before .before .before .before .before .before .before .before .code-at .ensures) in
-    turned-as _ _ (now (a .s)) (now (a .out)) _ _ (walk-clusters (now (a .d)) (a .p) (a .left) (c .before .before .before .before .before .before .before .before .before .before .before .before .before .before .before .before .before .pre .1 .0) (orderOf (a .o)) (now (a .s)) (a .n) (a .from) _ (c .before .before .before .before .inside-of .ensures) kind) (c .before .before .turn-rows .ensures)
+    let kind = ap (λ x. isCompound (kindOf x)) (sym (c .before .before .before .before .before .before .before .before .before .before .before .before .before .code-at .ensures)) ∙ sym (c .before .before .before .before .before .before .before .before .is-compound .ensures) ∙ c .before .before .before .before .before .before .before .if2 .taken in
+    turned-as _ _ (now (a .s)) (now (a .out)) _ _ (walk-compounds (now (a .d)) (a .p) (a .left) (c .before .before .before .before .before .before .before .before .before .before .before .before .before .before .before .before .before .pre .1 .0) (orderOf (a .o)) (now (a .s)) (a .n) (a .from) _ (c .before .before .before .before .inside-of .ensures) kind) (c .before .before .turn-rows .ensures)
 
 turn-values-turn-rows-requires-2 : (t : ℕ) → turn-values-lts.Need-turn-rows-requires-2 (turn-values-calls t) (turn-values-at t) turn-values.Post
 turn-values-turn-rows-requires-2 t c κs =
-    let a = c .before .before .before .before .before .before .before .before .before .before .args in
-    (omega (arith, c .before .before .before .before .before .before .before .before .before .before .pre .0), (alone (now (a .d)) (a .p) (a .left) (c .before .before .before .before .before .before .before .before .before .before .pre .1 .0) .0, turnable-as _ _ (now (a .s)) (now (a .out)) (a .from) (sym (walk-alone (now (a .d)) (a .p) (a .left) (c .before .before .before .before .before .before .before .before .before .before .pre .1 .0) (orderOf (a .o)) (now (a .s)) (a .n) (a .from))) (c .before .before .before .before .before .before .before .before .before .before .pre .1 .1)))
+    let a = c .before .before .before .before .before .before .before .before .before .before .before .args in
+    (omega (arith, c .before .before .before .before .before .before .before .before .before .before .before .pre .0), (alone (now (a .d)) (a .p) (a .left) (c .before .before .before .before .before .before .before .before .before .before .before .pre .1 .0) .0, turnable-as _ _ (now (a .s)) (now (a .out)) (a .from) (sym (walk-alone (now (a .d)) (a .p) (a .left) (c .before .before .before .before .before .before .before .before .before .before .before .pre .1 .0) (orderOf (a .o)) (now (a .s)) (a .n) (a .from))) (c .before .before .before .before .before .before .before .before .before .before .before .pre .1 .1)))
 
 turn-values-same-length-5 : (t : ℕ) → turn-values-lts.Need-same-length-5 (turn-values-calls t) (turn-values-at t) turn-values.Post
 turn-values-same-length-5 t c = search needs
 
 turn-values-returns-5 : (t : ℕ) → turn-values-lts.Need-returns-5 (turn-values-calls t) (turn-values-at t) turn-values.Post
 turn-values-returns-5 t c =
-    let a = c .before .before .before .before .before .before .before .before .before .before .before .before .before .args in
-    turned-as _ _ (now (a .s)) (now (a .out)) _ _ (walk-alone (now (a .d)) (a .p) (a .left) (c .before .before .before .before .before .before .before .before .before .before .before .before .before .pre .1 .0) (orderOf (a .o)) (now (a .s)) (a .n) (a .from)) (c .before .before .turn-rows2 .ensures)
+    let a = c .before .before .before .before .before .before .before .before .before .before .before .before .before .before .args in
+    turned-as _ _ (now (a .s)) (now (a .out)) _ _ (walk-alone (now (a .d)) (a .p) (a .left) (c .before .before .before .before .before .before .before .before .before .before .before .before .before .before .pre .1 .0) (orderOf (a .o)) (now (a .s)) (a .n) (a .from)) (c .before .before .turn-rows2 .ensures)
 
 pub +turn-rows+turn-value+turn-values-spec : {M : Type 1} → statement M
 +turn-rows+turn-value+turn-values-spec =
@@ -507,7 +506,7 @@ pub +turn-rows+turn-value+turn-values-spec : {M : Type 1} → statement M
     (turn-values-turn-texts-requires t)
     (turn-values-same-length-2 t)
     (turn-values-returns-2 t)
-    (turn-values-enum-told-2 t)
+    (turn-values-is-compound-requires t)
     (turn-values-even-step-requires t)
     (turn-values-turn-even-requires t)
     (turn-values-mul-result-2 t)

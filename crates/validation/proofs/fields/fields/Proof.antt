@@ -55,8 +55,14 @@ cluster-fields-requires c κs = search needs
 enum-told-7 : tie.Need-enum-told-7
 enum-told-7 c = search needs
 
-refuse-requires : tie.Need-refuse-requires
-refuse-requires c κs = search needs
+stamp-fields-requires : tie.Need-stamp-fields-requires
+stamp-fields-requires c κs = search needs
+
+enum-told-8 : tie.Need-enum-told-8
+enum-told-8 c = search needs
+
+not-carried-requires : tie.Need-not-carried-requires
+not-carried-requires c κs = search needs
 
 returns : tie.Need-returns
 unfolding kindNamed fieldsAt fieldsRead contentsAt filledAt countOf childCount
@@ -83,8 +89,12 @@ unfolding kindNamed
 returns-6 c = c .cluster-fields .ensures ∙ ap (λ k. fieldsStep (fieldsAt k (now (c .before .before .before .before .before .args .d)) (c .before .before .before .before .before .args .p) (c .before .before .before .before .before .args .body) (c .before .before .before .before .before .args .stop))) (known _ kinds.Cluster (kindOf (c .before .before .before .before .before .args .code)) (c .before .before .before .kind-of .ensures) (c .before .enum-told6 .given .1))
 
 returns-7 : tie.Need-returns-7
+unfolding kindNamed
+returns-7 c = c .stamp-fields .ensures ∙ ap (λ k. fieldsStep (fieldsAt k (now (c .before .before .before .before .before .args .d)) (c .before .before .before .before .before .args .p) (c .before .before .before .before .before .args .body) (c .before .before .before .before .before .args .stop))) (known _ kinds.Stamp (kindOf (c .before .before .before .before .before .args .code)) (c .before .before .before .kind-of .ensures) (c .before .enum-told7 .given .1))
+
+returns-8 : tie.Need-returns-8
 unfolding kindNamed fieldsAt fieldsRead contentsAt filledAt countOf childCount
-returns-7 c = c .refuse .ensures ∙ ap (λ k. fieldsStep (fieldsAt k (now (c .before .before .before .before .before .args .d)) (c .before .before .before .before .before .args .p) (c .before .before .before .before .before .args .body) (c .before .before .before .before .before .args .stop))) (known _ kinds.Unknown (kindOf (c .before .before .before .before .before .args .code)) (c .before .before .before .kind-of .ensures) (c .before .enum-told7 .given .1))
+returns-8 c = c .not-carried .ensures ∙ ap (λ k. fieldsStep (fieldsAt k (now (c .before .before .before .before .before .args .d)) (c .before .before .before .before .before .args .p) (c .before .before .before .before .before .args .body) (c .before .before .before .before .before .args .stop))) (known _ kinds.Unknown (kindOf (c .before .before .before .before .before .args .code)) (c .before .before .before .kind-of .ensures) (c .before .enum-told8 .given .1))
 
 pub fields-spec : {M : Type 1} → statement M
 fields-spec =
@@ -104,11 +114,14 @@ fields-spec =
     enum-told-6
     cluster-fields-requires
     enum-told-7
-    refuse-requires
+    stamp-fields-requires
+    enum-told-8
+    not-carried-requires
     returns
     returns-2
     returns-3
     returns-4
     returns-5
     returns-6
-    returns-7)
+    returns-7
+    returns-8)

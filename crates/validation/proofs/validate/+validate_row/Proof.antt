@@ -14,11 +14,15 @@ use Rattle.descriptor.specs.Outcome.{refused, read}
 use Rattle.descriptor.specs.inner.Promises.{rowStep}
 use Rattle.descriptor.specs.Tree.{Tree, node, countOf, childCount, rowCount, forestRows}
 use Rattle.descriptor.specs.Table.{nameLength}
-use Rattle.descriptor.specs.Check.{headerAt, fieldsAt, membersAt, nameAt, treeAt}
+use Rattle.descriptor.specs.Check.{headerAt, fieldsAt, membersAt, treeAt}
+use Rattle.descriptor.specs.inner.Standing.{standingRow}
+use Rattle.validation.specs.inner.Rest.{restAt}
+use Rattle.validation.proofs.Rests.{inside-same, inside-lies, stamp-one}
 use Rattle.descriptor.proofs.Outcomes.{holds-read}
-use Rattle.descriptor.proofs.Sizes.{fields-end, name-ends}
+use Rattle.descriptor.proofs.Sizes.{fields-end}
+use Rattle.descriptor.proofs.Standing.{members-standing}
 use Rattle.descriptor.proofs.Steps.{got, lost}
-use Rattle.validation.proofs.Members.{RowLoop, Inside, head-got, head-lost, tree-lost, tree-opened, fields-lost, children-lost, name-lost, node-read, loop-begin, loop-more, loop-lost, loop-done, no-children, some-children}
+use Rattle.validation.proofs.Members.{RowLoop, Inside, head-got, head-lost, tree-lost, tree-opened, rest-ends, fields-lost, children-lost, rest-lost, node-read, loop-begin, loop-more, loop-lost, loop-done, no-children, some-children}
 use Prim.Native.Nat.{ℕ, _<_}
 use borrow.Fn.Kinds.{In}
 use borrow.Fn.PlainCycle.{Measures, is, falls, and}
@@ -28,7 +32,7 @@ use Rattle.validation.proofs.validate.+validate_row.Lts-validate_row as
 use Rattle.descriptor.proofs.codes.is_array.Reads as is-array-reads
 use Rattle.validation.proofs.fields.fields.Reads as fields-reads
 use Rattle.descriptor.proofs.header.header.Reads as header-reads
-use Rattle.validation.proofs.name.name.Reads as name-reads
+use Rattle.validation.proofs.rest.rest.Reads as rest-reads
 use Rattle.descriptor.proofs.step.accept.Reads as accept-reads
 use Rattle.descriptor.proofs.step.refuse.Reads as refuse-reads
 use Rattle.validation.proofs.validate.+validate_row.{statement}
@@ -51,7 +55,7 @@ validate-row-below t =
 
 -- what the callees ask and give, and this function below the measure t
 abbrev cs : ℕ → validate-row-lts.Claims
-cs t = (header-reads.Asked, header-reads.Learnt, refuse-reads.Asked, refuse-reads.Learnt, fields-reads.Asked, fields-reads.Learnt, is-array-reads.Asked, is-array-reads.Learnt, validate-row-below t, validate-row.Post, name-reads.Asked, name-reads.Learnt, accept-reads.Asked, accept-reads.Learnt)
+cs t = (header-reads.Asked, header-reads.Learnt, refuse-reads.Asked, refuse-reads.Learnt, fields-reads.Asked, fields-reads.Learnt, is-array-reads.Asked, is-array-reads.Learnt, validate-row-below t, validate-row.Post, rest-reads.Asked, rest-reads.Learnt, accept-reads.Asked, accept-reads.Learnt)
 
 abbrev inv : validate-row-lts.InvT-loop
 inv d levels in-array end k start n p₀ rows₀ i₀ p rows i = RowLoop d levels in-array end k start n p rows i
@@ -60,10 +64,10 @@ abbrev μ : validate-row-lts.MeasureT-loop
 μ d levels in-array end k start n p₀ rows₀ i₀ p rows i = k - i
 
 validate-row-loop-holds : (t : ℕ) → validate-row-lts.Need-loop-holds (cs t) (validate-row-at t) validate-row.Post inv μ
-validate-row-loop-holds t c = let a = c .before .args in loop-begin (now (a .d)) (a .levels) (a .«in-array») (a .end) (a .k) (a .start) (a .n) (c .before .pre .1 .from)
+validate-row-loop-holds t c = let a = c .before .args in loop-begin (now (a .d)) (a .levels) (a .«in-array») (a .end) (a .k) (a .start) (a .n) (c .before .pre .1 .0 .from)
 
 validate-row-header-requires : (t : ℕ) → validate-row-lts.Need-header-requires (cs t) (validate-row-at t) validate-row.Post inv μ
-validate-row-header-requires t c κs = record { from = c .before .loop .inv .next; inside = c .before .before .before .pre .1 .inside; small = c .before .before .before .pre .1 .small }
+validate-row-header-requires t c κs = record { from = c .before .loop .inv .next; inside = c .before .before .before .pre .1 .0 .inside; small = c .before .before .before .pre .1 .0 .small }
 
 validate-row-refuse-requires : (t : ℕ) → validate-row-lts.Need-refuse-requires (cs t) (validate-row-at t) validate-row.Post inv μ
 validate-row-refuse-requires t c κs = search needs
@@ -81,7 +85,7 @@ validate-row-add-stop t c = let a = c .before .before .before .before .before .b
     let h = c .before .before .before .header in
     let hok = not-false _ (c .before .if1 .left) in
     let good = h .ensures .good hok in
-    omega (arith, good .inside, c .before .before .before .before .before .before .before .pre .1 .inside, c .before .before .before .before .before .before .before .pre .1 .small)
+    omega (arith, good .inside, c .before .before .before .before .before .before .before .pre .1 .0 .inside, c .before .before .before .before .before .before .before .pre .1 .0 .small)
 
 validate-row-fields-requires : (t : ℕ) → validate-row-lts.Need-fields-requires (cs t) (validate-row-at t) validate-row.Post inv μ
 validate-row-fields-requires t c κs = let a = c .before .before .before .before .before .before .before .args in
@@ -90,7 +94,7 @@ validate-row-fields-requires t c κs = let a = c .before .before .before .before
     let h = c .before .before .before .header in
     let hok = not-false _ (c .before .if1 .left) in
     let good = h .ensures .good hok in
-    (record { from = omega (arith, good .body, good .least); inside = omega (arith, good .inside, c .before .before .before .before .before .before .before .pre .1 .inside); small = c .before .before .before .before .before .before .before .pre .1 .small }, omega (arith, good .body))
+    (record { from = omega (arith, good .body, good .least); inside = omega (arith, good .inside, c .before .before .before .before .before .before .before .pre .1 .0 .inside); small = c .before .before .before .before .before .before .before .pre .1 .0 .small }, omega (arith, good .body))
 
 validate-row-returns-2 : (t : ℕ) → validate-row-lts.Need-returns-2 (cs t) (validate-row-at t) validate-row.Post inv μ
 validate-row-returns-2 t c = let a = c .before .before .before .before .before .before .before .before .before .before .args in
@@ -135,8 +139,8 @@ validate-row-validate-row-requires t c κs = let a = c .before .before .before .
     let hg = head-got (headerAt s (a .levels) (a .«in-array») (a .end) (l .p) (l .rows)) (h .result) (h .ensures .eq) hok in
     let b = c .before .before .before .before .before .fields in
     let fg = got countOf childCount (fieldsAt (kindOf (h .result .code)) s (l .p) (h .result .body) (l .p + h .result .size)) (b .result) (b .ensures) (not-false _ (c .before .before .before .if2 .left)) in
-    let e = holds-read (fg .eq) (fields-end s (l .p) (l .p + h .result .size) (omega (arith, good .inside, c .before .before .before .before .before .before .before .before .before .before .before .before .before .pre .1 .inside)) (kindOf (h .result .code)) (h .result .body) (good .body) (omega (arith, good .body, good .least))) in
-    (omega (arith, c .before .before .before .before .before .before .before .before .before .before .before .before .before .pre .0, good .level), record { from = e .within; inside = omega (arith, good .inside, c .before .before .before .before .before .before .before .before .before .before .before .before .before .pre .1 .inside); small = c .before .before .before .before .before .before .before .before .before .before .before .before .before .pre .1 .small })
+    let e = holds-read (fg .eq) (fields-end s (l .p) (l .p + h .result .size) (omega (arith, good .inside, c .before .before .before .before .before .before .before .before .before .before .before .before .before .pre .1 .0 .inside)) (kindOf (h .result .code)) (h .result .body) (good .body) (omega (arith, good .body, good .least))) in
+    (omega (arith, c .before .before .before .before .before .before .before .before .before .before .before .before .before .pre .0, good .level), (record { from = e .within; inside = omega (arith, good .inside, c .before .before .before .before .before .before .before .before .before .before .before .before .before .pre .1 .0 .inside); small = c .before .before .before .before .before .before .before .before .before .before .before .before .before .pre .1 .0 .small }, omega (arith, c .before .before .before .before .before .before .before .before .before .before .before .before .before .pre .1 .1)))
 
 validate-row-returns-3 : (t : ℕ) → validate-row-lts.Need-returns-3 (cs t) (validate-row-at t) validate-row.Post inv μ
 validate-row-returns-3 t c = let a = c .before .before .before .before .before .before .before .before .before .before .before .before .before .before .before .before .args in
@@ -169,7 +173,7 @@ validate-row-inside t c =
     let b = c .before .before .before .before .fields in
     let fg = got countOf childCount (fieldsAt (kindOf (h .result .code)) s (l .p) (h .result .body) (l .p + h .result .size)) (b .result) (b .ensures) (not-false _ (c .before .before .if2 .left)) in
     let stop = l .p + h .result .size in
-    let fit : stop ≤ length s = omega (arith, good .inside, c .before .before .before .before .before .before .before .before .before .before .before .before .pre .1 .inside) in
+    let fit : stop ≤ length s = omega (arith, good .inside, c .before .before .before .before .before .before .before .before .before .before .before .before .pre .1 .0 .inside) in
     let e = holds-read (fg .eq) (fields-end s (l .p) stop fit (kindOf (h .result .code)) (h .result .body) (good .body) (omega (arith, good .body, good .least))) in
     ⊎-elim
     (λ u.
@@ -181,15 +185,22 @@ validate-row-inside t c =
     record { forest = kids .forest; eq = kids .eq ∙ ap (λ j. read j (kids .forest)) (sym (u .2)); count = u .1 ∙ kids .count; within = omega (arith, kids .within, u .2) })
     (c .if3 .came)
 
-validate-row-name-requires : (t : ℕ) → validate-row-lts.Need-name-requires (cs t) (validate-row-at t) validate-row.Post inv μ
-validate-row-name-requires t c κs = let a = c .before .before .before .before .before .before .before .before .before .before .before .before .args in
+validate-row-rest-requires : (t : ℕ) → validate-row-lts.Need-rest-requires (cs t) (validate-row-at t) validate-row.Post inv μ
+validate-row-rest-requires t c κs = let a = c .before .before .before .before .before .before .before .before .before .before .before .before .args in
     let s = now (a .d) in
     let l = c .before .before .before .before .before .before .before .before .before .before .loop in
     let h = c .before .before .before .before .before .before .before .before .header in
     let hok = not-false _ (c .before .before .before .before .before .before .if1 .left) in
     let good = h .ensures .good hok in
+    let b = c .before .before .before .before .fields in
+    let stop = l .p + h .result .size in
+    let fit : stop ≤ length s = omega (arith, good .inside, c .before .before .before .before .before .before .before .before .before .before .before .before .pre .1 .0 .inside) in
+    let fg = got countOf childCount (fieldsAt (kindOf (h .result .code)) s (l .p) (h .result .body) stop) (b .result) (b .ensures) (not-false _ (c .before .before .if2 .left)) in
     let v = validate-row-inside t (c) in
-    record { from = v .within; inside = omega (arith, good .inside, c .before .before .before .before .before .before .before .before .before .before .before .before .pre .1 .inside); small = c .before .before .before .before .before .before .before .before .before .before .before .before .pre .1 .small }
+    let up = members-standing s (a .levels - 1) (isArray (kindOf (h .result .code))) stop (omega (arith, c .before .before .before .before .before .before .before .before .before .before .before .before .pre .1 .1)) fit (childCount (fg .value)) (b .result .next) (l .rows + 1) (c .if3 .at) (v .forest) (v .eq) in (
+      record { from = v .within; inside = fit; small = c .before .before .before .before .before .before .before .before .before .before .before .before .pre .1 .0 .small },
+      λ i. inside-lies s (b .result .next) (c .if3 .at) (v .forest) (ap (λ n. standingRow s n (b .result .next)) (sym (stamp-one s (kindOf (h .result .code)) (l .p) (h .result .body) stop (b .result .next) (fg .value) i (fg .eq))) ∙ up),
+    )
 
 validate-row-returns-4 : (t : ℕ) → validate-row-lts.Need-returns-4 (cs t) (validate-row-at t) validate-row.Post inv μ
 validate-row-returns-4 t c = let a = c .before .before .before .before .before .before .before .before .before .before .before .before .before .before .before .args in
@@ -202,8 +213,12 @@ validate-row-returns-4 t c = let a = c .before .before .before .before .before .
     let b = c .before .before .before .before .before .before .before .fields in
     let fg = got countOf childCount (fieldsAt (kindOf (h .result .code)) s (l .p) (h .result .body) (l .p + h .result .size)) (b .result) (b .ensures) (not-false _ (c .before .before .before .before .before .if2 .left)) in
     let v = validate-row-inside t (c .before .before .before) in
-    let bad = lost nameLength (λ _. 0) (nameAt s (l .p) (l .p + h .result .size) (c .before .before .before .if3 .at)) (c .before .before .name .result) (c .before .before .name .ensures) (not-true _ (c .if5 .taken)) in
-    bad .same ∙ loop-lost s (a .levels) (a .«in-array») (a .end) (a .k) (a .start) (a .n) (l .p) (l .rows) (l .i) (l .inv) (c .before .before .before .before .before .before .before .before .before .before .before .before .loop-test .taken) _ _ (tree-opened (a .levels) s (a .«in-array») (a .end) (l .p) (l .rows) (h .result .body) _ (good .level) (hg .eq) ∙ name-lost s (λ a2 stop q m. treeAt (a .levels - 1) s a2 stop q m) (l .p) (l .rows) (h .result .body) (record { size = h .result .size; code = h .result .code }) _ _ (b .result .next) (c .before .before .before .if3 .at) (fg .value) (v .forest) (fg .eq) (v .eq) (bad .eq))
+    let stop = l .p + h .result .size in
+    let fit : stop ≤ length s = omega (arith, good .inside, c .before .before .before .before .before .before .before .before .before .before .before .before .before .before .before .pre .1 .0 .inside) in
+    let up = members-standing s (a .levels - 1) (isArray (kindOf (h .result .code))) stop (omega (arith, c .before .before .before .before .before .before .before .before .before .before .before .before .before .before .before .pre .1 .1)) fit (childCount (fg .value)) (b .result .next) (l .rows + 1) (c .before .before .before .if3 .at) (v .forest) (v .eq) in
+    let fits = inside-same s (kindOf (h .result .code)) (childCount (fg .value)) (b .result .next) (c .before .before .before .if3 .at) (v .forest) (λ i. stamp-one s (kindOf (h .result .code)) (l .p) (h .result .body) stop (b .result .next) (fg .value) i (fg .eq)) up in
+    let bad = lost nameLength (λ _. 0) (restAt (kindOf (h .result .code)) s (l .p) (b .result .next) (l .p + h .result .size) (c .before .before .before .if3 .at)) (c .before .before .rest .result) (c .before .before .rest .ensures) (not-true _ (c .if5 .taken)) in
+    bad .same ∙ loop-lost s (a .levels) (a .«in-array») (a .end) (a .k) (a .start) (a .n) (l .p) (l .rows) (l .i) (l .inv) (c .before .before .before .before .before .before .before .before .before .before .before .before .loop-test .taken) _ _ (tree-opened (a .levels) s (a .«in-array») (a .end) (l .p) (l .rows) (h .result .body) _ (good .level) (hg .eq) ∙ rest-lost s (λ a2 stop q m. treeAt (a .levels - 1) s a2 stop q m) (l .p) (l .rows) (h .result .body) (record { size = h .result .size; code = h .result .code }) (b .result .next) (c .before .before .before .if3 .at) (fg .value) (v .forest) (fg .eq) (v .eq) fits _ _ (bad .eq))
 
 validate-row-add-i : (t : ℕ) → validate-row-lts.Need-add-i (cs t) (validate-row-at t) validate-row.Post inv μ
 validate-row-add-i t c = omega (arith, c .before .before .before .before .before .before .before .before .before .before .before .before .loop-test .taken, c .before .before .before .before .before .before .before .before .before .before .before .before .before .before .before .fits .k)
@@ -223,13 +238,15 @@ validate-row-loop-again t c = let a = c .before .before .before .before .before 
     let b = c .before .before .before .before .before .before .before .fields in
     let fg = got countOf childCount (fieldsAt (kindOf (h .result .code)) s (l .p) (h .result .body) (l .p + h .result .size)) (b .result) (b .ensures) (not-false _ (c .before .before .before .before .before .if2 .left)) in
     let v = validate-row-inside t (c .before .before .before) in
-    let m = c .before .before .name in
+    let m = c .before .before .rest in
     let stop = l .p + h .result .size in
-    let fit : stop ≤ length s = omega (arith, good .inside, c .before .before .before .before .before .before .before .before .before .before .before .before .before .before .before .pre .1 .inside) in
-    let mg = got nameLength (λ _. 0) (nameAt s (l .p) stop (c .before .before .before .if3 .at)) (m .result) (m .ensures) (not-false _ (c .if5 .left)) in
-    let last = holds-read (mg .eq) (name-ends s (l .p) stop fit (c .before .before .before .if3 .at)) .1 in
+    let fit : stop ≤ length s = omega (arith, good .inside, c .before .before .before .before .before .before .before .before .before .before .before .before .before .before .before .pre .1 .0 .inside) in
+    let up = members-standing s (a .levels - 1) (isArray (kindOf (h .result .code))) stop (omega (arith, c .before .before .before .before .before .before .before .before .before .before .before .before .before .before .before .pre .1 .1)) fit (childCount (fg .value)) (b .result .next) (l .rows + 1) (c .before .before .before .if3 .at) (v .forest) (v .eq) in
+    let fits = inside-same s (kindOf (h .result .code)) (childCount (fg .value)) (b .result .next) (c .before .before .before .if3 .at) (v .forest) (λ i. stamp-one s (kindOf (h .result .code)) (l .p) (h .result .body) stop (b .result .next) (fg .value) i (fg .eq)) up in
+    let mg = got nameLength (λ _. 0) (restAt (kindOf (h .result .code)) s (l .p) (b .result .next) stop (c .before .before .before .if3 .at)) (m .result) (m .ensures) (not-false _ (c .if5 .left)) in
+    let last = holds-read (mg .eq) (rest-ends (kindOf (h .result .code)) s (l .p) (b .result .next) stop (c .before .before .before .if3 .at) fit) in
     let t : Tree = node (h .result .code) (fg .value) (v .forest) (mg .value) in
-    let tree = tree-opened (a .levels) s (a .«in-array») (a .end) (l .p) (l .rows) (h .result .body) _ (good .level) (hg .eq) ∙ node-read s (λ a2 stop q m. treeAt (a .levels - 1) s a2 stop q m) (l .p) (l .rows) (h .result .body) (record { size = h .result .size; code = h .result .code }) (b .result .next) (c .before .before .before .if3 .at) (m .result .next) (fg .value) (v .forest) (mg .value) (fg .eq) (v .eq) (mg .eq) ∙ ap (λ j. read j t) last in
+    let tree = tree-opened (a .levels) s (a .«in-array») (a .end) (l .p) (l .rows) (h .result .body) _ (good .level) (hg .eq) ∙ node-read s (λ a2 stop q m. treeAt (a .levels - 1) s a2 stop q m) (l .p) (l .rows) (h .result .body) (record { size = h .result .size; code = h .result .code }) (b .result .next) (c .before .before .before .if3 .at) (fg .value) (v .forest) (fg .eq) (v .eq) fits (m .result .next) (mg .value) (mg .eq) ∙ ap (λ j. read j t) last in
     loop-more s (a .levels) (a .«in-array») (a .end) (a .k) (a .start) (a .n) (l .p) (l .rows) (l .i) (l .inv) (c .before .before .before .before .before .before .before .before .before .before .before .before .loop-test .taken) stop (c .before .before .before .if3 .rows) t (good .inside) tree (omega (arith, v .count))
 
 validate-row-accept-requires : (t : ℕ) → validate-row-lts.Need-accept-requires (cs t) (validate-row-at t) validate-row.Post inv μ
@@ -253,8 +270,8 @@ pub +validate-row-spec : {M : Type 1} → statement M
   is-array-reads.Learnt,
   validate-row-below t,
   validate-row.Post,
-  name-reads.Asked,
-  name-reads.Learnt,
+  rest-reads.Asked,
+  rest-reads.Learnt,
   accept-reads.Asked,
   accept-reads.Learnt,
 )
@@ -274,7 +291,7 @@ pub +validate-row-spec : {M : Type 1} → statement M
     (validate-row-is-array-requires t)
     (validate-row-validate-row-requires t)
     (validate-row-returns-3 t)
-    (validate-row-name-requires t)
+    (validate-row-rest-requires t)
     (validate-row-returns-4 t)
     (validate-row-add-i t)
     (validate-row-loop-less t)

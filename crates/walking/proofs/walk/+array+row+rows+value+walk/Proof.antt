@@ -10,7 +10,7 @@ use lib.ListN.{length}
 use denote.Ref.{now}
 use Rattle.descriptor.specs.Codes.{string, array, kindOf}
 use Rattle.descriptor.specs.Width.{widthOf}
-use Rattle.descriptor.specs.inner.Steps.{kindIs}
+use Rattle.descriptor.specs.inner.Steps.{kindIs, isCompound}
 use Rattle.descriptor.specs.declared.codes.Kind.the-variants as kinds
 use Rattle.descriptor.proofs.CodeKinds.{kindNamed, known}
 use Rattle.descriptor.proofs.Bodies.{header-room}
@@ -22,11 +22,11 @@ use Rattle.walking.specs.inner.Fronts.{resumed, Resumable, FrontMet}
 use Rattle.walking.specs.declared.arrays.Front.{Front}
 use Rattle.flattened.specs.declared.progress.Progress.{Progress}
 use Rattle.flattened.proofs.Named.{not-kind}
-use Rattle.flattened.proofs.Cases.{hasInside, row-inside, is-cluster}
+use Rattle.flattened.proofs.Cases.{compound-inside, row-inside, compound}
 use Rattle.flattened.proofs.Types.{type-deep, alone}
 use Rattle.flattened.proofs.Repeats.{repeat-one}
 use Rattle.flattened.proofs.Turns.{RepeatLoop, repeat-begin, repeat-next, repeat-stop, repeat-end}
-use Rattle.flattened.proofs.KindWalks.{value-text, value-cluster, value-array, walk-texts, walk-clusters, walk-alone}
+use Rattle.flattened.proofs.KindWalks.{value-text, value-compound, value-array, walk-texts, walk-compounds, walk-alone}
 use Rattle.walking.proofs.Walks.{Ahead, RowLoop, row-begin, row-here, row-stop, row-ahead, row-next, row-end, types-ahead, values-few}
 use borrow.Fn.Kinds.{In}
 use borrow.Fn.PlainCycle.{Measures, is, falls, and}
@@ -45,6 +45,7 @@ use Rattle.walking.proofs.walk.+array+row+rows+value+walk.Lts-value as 
 use Rattle.walking.proofs.walk.walk.Reads as walk
 use Rattle.walking.proofs.walk.walk.Kinds as walk-kinds
 use Rattle.walking.proofs.walk.+array+row+rows+value+walk.Lts-walk as walk-lts
+use Rattle.descriptor.proofs.codes.is_compound.Reads as is-compound-reads
 use Rattle.descriptor.proofs.codes.kind_of.Reads as kind-of-reads
 use Rattle.descriptor.proofs.header.code_at.Reads as code-at-reads
 use Rattle.descriptor.proofs.header.size_at.Reads as size-at-reads
@@ -490,15 +491,15 @@ value-sub-row : (t : ℕ) → value-lts.Need-sub-row (value-calls t) (value-at t
 value-sub-row t c = let a = c .before .before .before .before .before .before .before .args in type-deep (now (a .d)) (a .p) (a .left) (c .before .before .before .before .before .before .before .pre .1 .0)
 
 value-row-requires : (t : ℕ) → value-lts.Need-row-requires (value-calls t) (value-at t) value.Post
-unfolding kindIs hasInside
+unfolding kindIs
 value-row-requires t c κs =
     let a = c .before .before .before .before .before .before .before .args in
     let d = now (a .d) in
     let s = now (a .s) in
-    let no-text = not-kind string (0 ∷ 1 ∷ 2 ∷ 4 ∷ 5 ∷ 6 ∷ []) tt _ _ _ (c .before .before .before .kind-of .ensures) (c .before .before .before .before .code-at .ensures) (c .before .before .match .keys2) in
-    let no-array = not-kind array (0 ∷ 1 ∷ 2 ∷ 3 ∷ 5 ∷ 6 ∷ []) tt _ _ _ (c .before .before .before .kind-of .ensures) (c .before .before .before .before .code-at .ensures) (c .match2 .keys2) in
-    let kind = is-cluster d (a .p) (c .before .before .before .before .before .before .before .pre .1 .0 .here) (c .before .before .before .before .before .before .before .pre .1 .1 .0) no-text no-array in
-    (omega (arith, c .before .before .before .before .before .before .before .pre .0, type-deep d (a .p) (a .left) (c .before .before .before .before .before .before .before .pre .1 .0)), (row-inside d (a .p) (a .left) (c .before .before .before .before .before .before .before .pre .1 .0) _ (c .before .inside-of .ensures) (sym (ap hasInside kind)), c .before .before .before .before .before .before .before .pre .1 .1 .1))
+    let no-text = not-kind string (0 ∷ 1 ∷ 2 ∷ 4 ∷ 5 ∷ 6 ∷ 7 ∷ []) tt _ _ _ (c .before .before .before .kind-of .ensures) (c .before .before .before .before .code-at .ensures) (c .before .before .match .keys2) in
+    let no-array = not-kind array (0 ∷ 1 ∷ 2 ∷ 3 ∷ 5 ∷ 6 ∷ 7 ∷ []) tt _ _ _ (c .before .before .before .kind-of .ensures) (c .before .before .before .before .code-at .ensures) (c .match2 .keys2) in
+    let kind = compound d (a .p) (c .before .before .before .before .before .before .before .pre .1 .0 .here) (c .before .before .before .before .before .before .before .pre .1 .1 .0) no-text no-array in
+    (omega (arith, c .before .before .before .before .before .before .before .pre .0, type-deep d (a .p) (a .left) (c .before .before .before .before .before .before .before .pre .1 .0)), (row-inside d (a .p) (a .left) (c .before .before .before .before .before .before .before .pre .1 .0) _ (c .before .inside-of .ensures) (compound-inside _ kind), c .before .before .before .before .before .before .before .pre .1 .1 .1))
 
 value-returns-3 : (t : ℕ) → value-lts.Need-returns-3 (value-calls t) (value-at t) value.Post
 unfolding kindIs
@@ -506,13 +507,13 @@ value-returns-3 t c =
     let a = c .before .before .before .before .before .before .before .before .args in
     let d = now (a .d) in
     let s = now (a .s) in
-    let no-text = not-kind string (0 ∷ 1 ∷ 2 ∷ 4 ∷ 5 ∷ 6 ∷ []) tt _ _ _ (c .before .before .before .before .kind-of .ensures) (c .before .before .before .before .before .code-at .ensures) (c .before .before .before .match .keys2) in
-    let no-array = not-kind array (0 ∷ 1 ∷ 2 ∷ 3 ∷ 5 ∷ 6 ∷ []) tt _ _ _ (c .before .before .before .before .kind-of .ensures) (c .before .before .before .before .before .code-at .ensures) (c .before .match2 .keys2) in
-    let kind = is-cluster d (a .p) (c .before .before .before .before .before .before .before .before .pre .1 .0 .here) (c .before .before .before .before .before .before .before .before .pre .1 .1 .0) no-text no-array in
-    c .row .ensures ∙ sym (ap progress (value-cluster d (a .p) (c .before .before .before .before .before .before .before .before .pre .1 .0 .here) (orderOf (a .o)) s (a .from .at) _ (c .before .before .inside-of .ensures) kind))
+    let no-text = not-kind string (0 ∷ 1 ∷ 2 ∷ 4 ∷ 5 ∷ 6 ∷ 7 ∷ []) tt _ _ _ (c .before .before .before .before .kind-of .ensures) (c .before .before .before .before .before .code-at .ensures) (c .before .before .before .match .keys2) in
+    let no-array = not-kind array (0 ∷ 1 ∷ 2 ∷ 3 ∷ 5 ∷ 6 ∷ 7 ∷ []) tt _ _ _ (c .before .before .before .before .kind-of .ensures) (c .before .before .before .before .before .code-at .ensures) (c .before .match2 .keys2) in
+    let kind = compound d (a .p) (c .before .before .before .before .before .before .before .before .pre .1 .0 .here) (c .before .before .before .before .before .before .before .before .pre .1 .1 .0) no-text no-array in
+    c .row .ensures ∙ sym (ap progress (value-compound d (a .p) (c .before .before .before .before .before .before .before .before .pre .1 .0 .here) (orderOf (a .o)) s (a .from .at) _ (c .before .before .inside-of .ensures) kind))
 
 abbrev walk-calls : ℕ → walk-lts.Claims
-walk-calls t = (code-at-reads.Asked, code-at-reads.Learnt, kind-of-reads.Asked, kind-of-reads.Learnt, texts-reads.Asked, texts-reads.Learnt, inside-of-reads.Asked, inside-of-reads.Learnt, rows-below t, rows.Post)
+walk-calls t = (code-at-reads.Asked, code-at-reads.Learnt, kind-of-reads.Asked, kind-of-reads.Learnt, texts-reads.Asked, texts-reads.Learnt, is-compound-reads.Asked, is-compound-reads.Learnt, inside-of-reads.Asked, inside-of-reads.Learnt, rows-below t, rows.Post)
 
 walk-code-at-requires : (t : ℕ) → walk-lts.Need-code-at-requires (walk-calls t) (walk-at t) walk.Post
 walk-code-at-requires t c κs = let a = c .before .before .args in header-room (now (a .d)) (a .p) (c .before .before .pre .1 .0 .here)
@@ -535,8 +536,8 @@ walk-returns t c =
     let kind = known _ kinds.Text (kindOf (c .before .before .before .before .code-at .result)) (c .before .before .before .kind-of .ensures) (c .before .enum-told .given .1) ∙ ap kindOf (c .before .before .before .before .code-at .ensures) in
     c .texts .ensures ∙ ap progress (walk-texts d (a .p) (a .left) (c .before .before .before .before .before .before .before .pre .1 .0) (orderOf (a .o)) s (a .n) (a .from .at) kind)
 
-walk-enum-told-2 : (t : ℕ) → walk-lts.Need-enum-told-2 (walk-calls t) (walk-at t) walk.Post
-walk-enum-told-2 t c = search needs
+walk-is-compound-requires : (t : ℕ) → walk-lts.Need-is-compound-requires (walk-calls t) (walk-at t) walk.Post
+walk-is-compound-requires t c κs = search needs
 
 walk-inside-of-requires : (t : ℕ) → walk-lts.Need-inside-of-requires (walk-calls t) (walk-at t) walk.Post
 walk-inside-of-requires t c κs = c .before .before .before .before .before .before .before .pre .1 .0 .here
@@ -545,36 +546,34 @@ walk-sub-rows : (t : ℕ) → walk-lts.Need-sub-rows (walk-calls t) (walk-at t) 
 walk-sub-rows t c = let a = c .before .before .before .before .before .before .before .before .args in type-deep (now (a .d)) (a .p) (a .left) (c .before .before .before .before .before .before .before .before .pre .1 .0)
 
 walk-rows-requires : (t : ℕ) → walk-lts.Need-rows-requires (walk-calls t) (walk-at t) walk.Post
-unfolding kindNamed hasInside
 walk-rows-requires t c κs =
     let a = c .before .before .before .before .before .before .before .before .args in
     let d = now (a .d) in
     let s = now (a .s) in
-    let kind = known _ kinds.Cluster (kindOf (c .before .before .before .before .before .code-at .result)) (c .before .before .before .before .kind-of .ensures) (c .before .enum-told2 .given .1) ∙ ap kindOf (c .before .before .before .before .before .code-at .ensures) in
-    (omega (arith, c .before .before .before .before .before .before .before .before .pre .0, type-deep d (a .p) (a .left) (c .before .before .before .before .before .before .before .before .pre .1 .0)), (row-inside d (a .p) (a .left) (c .before .before .before .before .before .before .before .before .pre .1 .0) _ (c .inside-of .ensures) (sym (ap hasInside kind)), c .before .before .before .before .before .before .before .before .pre .1 .1))
+    let kind = ap (λ x. isCompound (kindOf x)) (sym (c .before .before .before .before .before .code-at .ensures)) ∙ sym (c .before .before .is-compound .ensures) ∙ c .before .if1 .taken in
+    (omega (arith, c .before .before .before .before .before .before .before .before .pre .0, type-deep d (a .p) (a .left) (c .before .before .before .before .before .before .before .before .pre .1 .0)), (row-inside d (a .p) (a .left) (c .before .before .before .before .before .before .before .before .pre .1 .0) _ (c .inside-of .ensures) (compound-inside _ kind), c .before .before .before .before .before .before .before .before .pre .1 .1))
 
 walk-returns-2 : (t : ℕ) → walk-lts.Need-returns-2 (walk-calls t) (walk-at t) walk.Post
-unfolding kindNamed
 walk-returns-2 t c =
     let a = c .before .before .before .before .before .before .before .before .before .args in
     let d = now (a .d) in
     let s = now (a .s) in
-    let kind = known _ kinds.Cluster (kindOf (c .before .before .before .before .before .before .code-at .result)) (c .before .before .before .before .before .kind-of .ensures) (c .before .before .enum-told2 .given .1) ∙ ap kindOf (c .before .before .before .before .before .before .code-at .ensures) in
-    c .rows .ensures ∙ ap progress (walk-clusters d (a .p) (a .left) (c .before .before .before .before .before .before .before .before .before .pre .1 .0) (orderOf (a .o)) s (a .n) (a .from .at) _ (c .before .inside-of .ensures) kind)
+    let kind = ap (λ x. isCompound (kindOf x)) (sym (c .before .before .before .before .before .before .code-at .ensures)) ∙ sym (c .before .before .before .is-compound .ensures) ∙ c .before .before .if1 .taken in
+    c .rows .ensures ∙ ap progress (walk-compounds d (a .p) (a .left) (c .before .before .before .before .before .before .before .before .before .pre .1 .0) (orderOf (a .o)) s (a .n) (a .from .at) _ (c .before .inside-of .ensures) kind)
 
 walk-rows-requires-2 : (t : ℕ) → walk-lts.Need-rows-requires-2 (walk-calls t) (walk-at t) walk.Post
 walk-rows-requires-2 t c κs =
-    let a = c .before .before .before .before .before .before .args in
-    let d = now (a .d) in
-    let s = now (a .s) in
-    (omega (arith, c .before .before .before .before .before .before .pre .0), (alone d (a .p) (a .left) (c .before .before .before .before .before .before .pre .1 .0) .0, c .before .before .before .before .before .before .pre .1 .1))
-
-walk-returns-3 : (t : ℕ) → walk-lts.Need-returns-3 (walk-calls t) (walk-at t) walk.Post
-walk-returns-3 t c =
     let a = c .before .before .before .before .before .before .before .args in
     let d = now (a .d) in
     let s = now (a .s) in
-    c .rows2 .ensures ∙ ap progress (walk-alone d (a .p) (a .left) (c .before .before .before .before .before .before .before .pre .1 .0) (orderOf (a .o)) s (a .n) (a .from .at))
+    (omega (arith, c .before .before .before .before .before .before .before .pre .0), (alone d (a .p) (a .left) (c .before .before .before .before .before .before .before .pre .1 .0) .0, c .before .before .before .before .before .before .before .pre .1 .1))
+
+walk-returns-3 : (t : ℕ) → walk-lts.Need-returns-3 (walk-calls t) (walk-at t) walk.Post
+walk-returns-3 t c =
+    let a = c .before .before .before .before .before .before .before .before .args in
+    let d = now (a .d) in
+    let s = now (a .s) in
+    c .rows2 .ensures ∙ ap progress (walk-alone d (a .p) (a .left) (c .before .before .before .before .before .before .before .before .pre .1 .0) (orderOf (a .o)) s (a .n) (a .from .at))
 
 pub +array+row+rows+value+walk-spec : {M : Type 1} → statement M
 +array+row+rows+value+walk-spec = close μ-array μ-row μ-rows μ-value μ-walk (λ t. array-lts.spec (array-calls t)
@@ -651,7 +650,7 @@ pub +array+row+rows+value+walk-spec : {M : Type 1} → statement M
     (walk-enum-told t)
     (walk-texts-requires t)
     (walk-returns t)
-    (walk-enum-told-2 t)
+    (walk-is-compound-requires t)
     (walk-inside-of-requires t)
     (walk-sub-rows t)
     (walk-rows-requires t)

@@ -1,6 +1,6 @@
 //! Data cut at every byte: 21 at the start of the piece that is cut.
 
-use super::{Limits, always, array, cluster, enumeration, plain, quantity, text};
+use super::{Limits, always, array, cluster, enumeration, plain, quantity, stamp, text};
 use crate::tree::Tree;
 
 pub fn add(limits: &mut Limits) {
@@ -31,6 +31,11 @@ pub fn add(limits: &mut Limits) {
         ("clusters in clusters", inner),
         ("strings in arrays", texts),
         ("arrays of pairs", rows),
+        ("time stamps", stamp()),
+        (
+            "time stamps beside",
+            cluster(vec![plain(0x06), stamp(), text()]),
+        ),
     ] {
         everywhere(limits, what, &array(1, element.clone()));
         everywhere(limits, what, &array(3, element));

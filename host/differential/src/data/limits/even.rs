@@ -4,7 +4,8 @@
 
 use reference::MOST_DATA;
 
-use super::{Both, Limits, array, cluster, enumeration, every_scalar, fill, plain, quantity};
+use super::{Both, Limits, array, cluster, enumeration, every_scalar};
+use super::{fill, plain, quantity, stamp};
 use crate::random::Random;
 use crate::tree::Tree;
 
@@ -31,6 +32,8 @@ fn elements() -> Vec<Tree> {
         cluster(vec![plain(0x0A), cluster(vec![plain(0x0A)])]),
         cluster(vec![plain(0x0D), plain(0x09)]),
         cluster(vec![plain(0x07), middle, enumeration(0x16, 3)]),
+        stamp(),
+        cluster(vec![plain(0x21), stamp(), plain(0x06)]),
         cluster(every),
     ]
 }

@@ -1,12 +1,46 @@
 //! Parts in parts, down to depth 8.
 
-use super::{Both, Limits, array, cluster, plain, text};
+use super::{Both, Limits, array, cluster, plain, stamp, text};
 use crate::tree::Tree;
 
 pub fn add(limits: &mut Limits) {
     clusters(limits);
     arrays(limits);
     empty_inside(limits);
+    stamps(limits);
+}
+
+/// A time stamp inside five clusters, and inside two arrays of clusters.
+fn stamps(limits: &mut Limits) {
+    let data = Both::new().words(&[0xFFFF_FFFF, 0x8000_0001, 0x8000_0002, 3]);
+    let tree = (1..6).fold(stamp(), |inner, _| cluster(vec![inner]));
+    limits.accepted("a time stamp at depth 6", &tree, data.clone(), 4);
+    for depth in 0..7 {
+        limits.part(&vec![0; depth], 0, 16, None);
+    }
+    limits.nowhere(&[0, 0, 0, 0, 0, 1], 5);
+    let values = [
+        (2, -1i64 as u64),
+        (2, -0x7FFF_FFFFi64 as u64),
+        (1, 0x8000_0002),
+        (1, 3),
+    ];
+    for (step, value) in (0..).zip(values) {
+        let path = [0, 0, 0, 0, 0, 0, step];
+        limits.part(&path, 4 * step as usize, 4, Some(value));
+    }
+    limits.nowhere(&[0, 0, 0, 0, 0, 0, 4], 6);
+    limits.nowhere(&[0; 8], 7);
+    let mut tree = stamp();
+    for _ in 0..2 {
+        tree = array(1, cluster(vec![tree]));
+    }
+    let data = rungs(2, &data);
+    let end = data.len();
+    limits.accepted("two arrays of two time stamps", &tree, data, 19);
+    limits.part(&[1, 0, 1, 0], end - 16, 16, None);
+    limits.part(&[1, 0, 1, 0, 0, 3], end - 4, 4, Some((1, 3)));
+    limits.nowhere(&[1, 0, 1, 0, 1], 4);
 }
 
 /// A number inside seven clusters.

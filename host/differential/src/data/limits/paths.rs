@@ -1,6 +1,6 @@
 //! Paths to parts of every kind, and one step past each.
 
-use super::{Ask, Limits, always, array, cluster, enumeration, every_scalar, plain, text};
+use super::{Ask, Limits, always, array, cluster, enumeration, every_scalar, plain, stamp, text};
 use crate::tree::Tree;
 
 pub fn add(limits: &mut Limits) {
@@ -12,7 +12,7 @@ pub fn add(limits: &mut Limits) {
         &cluster(members.clone()),
         1,
     );
-    members.extend([text(), array(1, text()), array(4, plain(0x21))]);
+    members.extend([text(), stamp(), array(1, text()), array(4, plain(0x21))]);
     let inner = cluster(members.clone());
     members.push(inner);
     every_part(limits, "members in members", &cluster(members), 200);
@@ -23,7 +23,8 @@ pub fn add(limits: &mut Limits) {
     wide.push(array(1, plain(0x0A)));
     every_part(limits, "an array in row 255", &cluster(wide), 280);
     let records = cluster(vec![plain(0x06), text(), enumeration(0x15, 5)]);
-    for element in scalars.chain([text(), records]) {
+    every_part(limits, "a time stamp", &stamp(), 16);
+    for element in scalars.chain([text(), records, stamp()]) {
         every_part(limits, "elements", &array(1, element.clone()), 60);
         every_part(limits, "elements of a cube", &array(3, element), 60);
     }

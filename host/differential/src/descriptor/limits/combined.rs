@@ -26,7 +26,7 @@ fn enumeration(count: usize) -> Tree {
 }
 
 /// A body of every kind.
-fn bodies() -> [Body; 6] {
+fn bodies() -> [Body; 7] {
     [
         Body::Plain(0x07),
         Body::Text,
@@ -34,6 +34,7 @@ fn bodies() -> [Body; 6] {
         Body::Quantity(0x1A, vec![[8, 0xFFFF]; 9]),
         Body::Array(4, Box::new(integer())),
         Body::Cluster(vec![integer()]),
+        Body::stamp(),
     ]
 }
 
@@ -143,6 +144,7 @@ fn wrong_counts() -> Vec<Wrong> {
         ("no count of pairs", whole(0x19, &[]), 8),
         ("no count of dimensions", whole(0x40, &[]), 8),
         ("no count of members", whole(0x50, &[]), 8),
+        ("no subtype", whole(0x54, &[]), 8),
         ("no items", whole(0x16, &[0, 0]), 9),
         ("no pairs", whole(0x1B, &[0, 0]), 9),
         ("ten pairs", whole(0x1C, &[0, 10]), 9),
@@ -206,7 +208,7 @@ fn deepest(limits: &mut Vec<Limit>) {
         let what = format!("{:02X} at depth", body.code());
         let deep = |depth| nested(Tree::unnamed(body.clone()), depth).normal_form();
         limits.refused(format!("{what} 9"), deep(9).bytes, 6, 48);
-        let fits = !matches!(body, Body::Array(..) | Body::Cluster(_));
+        let fits = !matches!(body, Body::Array(..) | Body::Cluster(_) | Body::Stamp(..));
         let (bytes, rows) = (deep(8).bytes, deep(8).rows);
         match fits {
             true => limits.accepted(format!("{what} 8"), bytes, rows.len()),

@@ -1,0 +1,4 @@
+pub mod Bits
+pub mod Gaps
+pub mod Taking
+pub mod Exact
