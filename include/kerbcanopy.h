@@ -32,7 +32,6 @@
  *       21  data ends inside a piece                                        piece start
  *       22  a length or size of 2^31 or more                                piece start
  *       23  enumeration's number not below its item count                   piece start
- *       24  Boolean's byte over 1                                           piece start
  *       25  bytes left over                                                 first of them
  *       30  step out of range, or on a type without parts (input 4)         step number, from 0
  *       31  no single number there: a string, array, cluster, time stamp,   0
@@ -53,10 +52,10 @@
  * stamp holds, 10, then 11; last 12.
  *
  * A piece of the data is one scalar, one whole string with its length word, or the size words of one array. "Piece start" is its first
- * byte, counted from the first byte of the data. A descriptor is judged to its end before its data: 20; then piece by piece 21, 22, 23,
- * 24 (all size words of an array, or the length word of a string, are there, 21, before 22 is judged; a string's characters are looked
- * for after that, 21); last 25. Then comes the path, 30, and what it leads to, 31; or the reader's members, 40 over all of them, 41,
- * then 42, 43, 44 member by member; and after all of them 50. "Reader's member" is its number in the reader's cluster, from 0.
+ * byte, counted from the first byte of the data. A descriptor is judged to its end before its data: 20; then piece by piece 21, 22, 23
+ * (all size words of an array, or the length word of a string, are there, 21, before 22 is judged; a string's characters are looked for
+ * after that, 21); last 25. Then comes the path, 30, and what it leads to, 31; or the reader's members, 40 over all of them, 41, then 42,
+ * 43, 44 member by member; and after all of them 50. "Reader's member" is its number in the reader's cluster, from 0.
  */
 #ifndef KERBCANOPY_H
 #define KERBCANOPY_H
@@ -137,7 +136,6 @@ enum kc_number {
     KC_REFUSED_DATA_END = 21,
     KC_REFUSED_LENGTH = 22,
     KC_REFUSED_ENUMERATION = 23,
-    KC_REFUSED_BOOLEAN = 24,
     KC_REFUSED_LEFT_OVER = 25,
     KC_REFUSED_STEP = 30,
     KC_REFUSED_NO_NUMBER = 31,
@@ -200,7 +198,7 @@ typedef struct { kc_answer answer; size_t start, length; } kc_part;
  *   2       01 to 04              a signed number, as the two's complement of 64 bits
  *   3       09, 19                a single, its exact bits the low 32
  *   4       0A, 1A                a double, its exact bits
- *   5       21                    a flag, 0 for false or 1 for true
+ *   5       21                    a flag, 0 for the byte 00, 1 for any other
  */
 typedef struct { kc_answer answer; uint32_t kind; uint64_t bits; } kc_value;
 
@@ -240,11 +238,11 @@ kc_answer kc_normal_form(const uint8_t *descriptor, size_t descriptor_len, uint8
  * 08; 4, 8, 16 for 09 to 0B and 19 to 1B; 8, 16, 32 for 0C to 0E and 1C to 1E; 1, 2, 4 for 15 to 17; 1 for 21. A string is a 32-bit
  * length and its characters; an array is one 32-bit size for each dimension, then the elements, last dimension fastest; a cluster is
  * its members in order; a time stamp is its cluster's four integers. Lengths and sizes are below 2^31, an enumeration's number is below
- * its item count, a Boolean's byte is 0 for false or 1 for true. Each piece starts exactly where the one before it ended, and together the
- * pieces are the whole data.
+ * its item count. A Boolean's byte may be any: 00 is false, every other is true. Each piece starts exactly where the one before it ended,
+ * and together the pieces are the whole data.
  *
  * Accepted: number 0, input 0, and the place is the piece count.
- * Refused: 1 to 12 with input 1, or 20 to 25 with input 3.
+ * Refused: 1 to 12 with input 1, or 20 to 23 or 25 with input 3.
  */
 kc_answer kc_check_data(const uint8_t *descriptor, size_t descriptor_len, const uint8_t *data, size_t data_len);
 
@@ -254,17 +252,18 @@ kc_answer kc_check_data(const uint8_t *descriptor, size_t descriptor_len, const 
  * before the path.
  *
  * Accepted: number 0, input 0, place 0, and the part's start and length.
- * Refused: 1 to 12 with input 1, 20 to 25 with input 3, or 30 with input 4; the part is empty at the front, start 0 and length 0.
+ * Refused: 1 to 12 with input 1, 20 to 23 or 25 with input 3, or 30 with input 4; the part is empty at the front, start 0 and length 0.
  */
 kc_part kc_view(const uint8_t *descriptor, size_t descriptor_len, const uint8_t *data, size_t data_len,
                 const uint32_t *path, size_t path_len);
 
 /*
- * Reads the number at the end of a path, the steps being those of kc_view.
+ * Reads the number at the end of a path, the steps being those of kc_view. Of a Boolean it gives true or false; which byte it is, the
+ * part of kc_view has.
  *
  * Accepted: number 0, input 0, place 0, and the value's kind and bits.
- * Refused: 1 to 12 with input 1, 20 to 25 with input 3, 30 with input 4, or 31 with input 4 where the path leads to no single number;
- * there is no value, kind 0 and bits 0.
+ * Refused: 1 to 12 with input 1, 20 to 23 or 25 with input 3, 30 with input 4, or 31 with input 4 where the path leads to no single
+ * number; there is no value, kind 0 and bits 0.
  */
 kc_value kc_read_value(const uint8_t *descriptor, size_t descriptor_len, const uint8_t *data, size_t data_len,
                        const uint32_t *path, size_t path_len);
@@ -275,8 +274,8 @@ kc_value kc_read_value(const uint8_t *descriptor, size_t descriptor_len, const u
  * characters stay.
  *
  * Accepted: number 0, input 0, and the place is the length written; `out` beyond it keeps its bytes.
- * Refused: 1 to 12 with input 1, 20 to 25 with input 3, or 50 with input 4 where `out` is too small, the place being the length needed.
- * Nothing is written.
+ * Refused: 1 to 12 with input 1, 20 to 23 or 25 with input 3, or 50 with input 4 where `out` is too small, the place being the length
+ * needed. Nothing is written.
  */
 kc_answer kc_to_little_endian(const uint8_t *descriptor, size_t descriptor_len, const uint8_t *data, size_t data_len,
                               uint8_t *out, size_t out_len);
@@ -286,8 +285,8 @@ kc_answer kc_to_little_endian(const uint8_t *descriptor, size_t descriptor_len, 
  * of accepted data; its refusals are those of the walk with numbers, lengths and sizes read reversed.
  *
  * Accepted: number 0, input 0, and the place is the length written; `out` beyond it keeps its bytes.
- * Refused: 1 to 12 with input 1, 20 to 25 with input 3, or 50 with input 4 where `out` is too small, the place being the length needed.
- * Nothing is written.
+ * Refused: 1 to 12 with input 1, 20 to 23 or 25 with input 3, or 50 with input 4 where `out` is too small, the place being the length
+ * needed. Nothing is written.
  */
 kc_answer kc_from_little_endian(const uint8_t *descriptor, size_t descriptor_len, const uint8_t *data, size_t data_len,
                                 uint8_t *out, size_t out_len);
@@ -301,10 +300,10 @@ kc_answer kc_from_little_endian(const uint8_t *descriptor, size_t descriptor_len
  *
  * Accepted: number 0, input 0, and the place is the length written; `out` beyond it keeps its bytes. What is written is data under
  * `reader`, no longer than the data.
- * Refused: 1 to 12 with input 1 for the writer, which is judged to its end before the reader, or 2 for the reader; 20 to 25 with input
- * 3; 40 with input 2 where the reader is no cluster of members with distinct names that are not empty; 41 with input 1; 42 to 44 with
- * input 2 for the first member of the reader that is missing, found twice or more, or of another type; or 50 with input 4 where `out`
- * is too small, the place being the length needed. Nothing is written.
+ * Refused: 1 to 12 with input 1 for the writer, which is judged to its end before the reader, or 2 for the reader; 20 to 23 or 25
+ * with input 3; 40 with input 2 where the reader is no cluster of members with distinct names that are not empty; 41 with input 1; 42 to
+ * 44 with input 2 for the first member of the reader that is missing, found twice or more, or of another type; or 50 with input 4 where
+ * `out` is too small, the place being the length needed. Nothing is written.
  */
 kc_answer kc_read_record(const uint8_t *writer, size_t writer_len, const uint8_t *reader, size_t reader_len,
                          const uint8_t *data, size_t data_len, uint8_t *out, size_t out_len);

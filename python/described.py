@@ -95,10 +95,10 @@ def described(tree: Type, reserved: Callable[[], int] = lambda: 0, start: int = 
 
 
 def number(code: int, value: Any, order: str) -> bytes:
-    """A scalar's bytes; the value of a real one is its numbers' bytes, big-endian."""
+    """A scalar's bytes; the value of a real one is its numbers' bytes, big-endian, that of a Boolean is its byte's number."""
     if code in REALS or code in QUANTITIES:
         return b"".join(half if order == ">" else half[::-1] for half in value)
-    form = {**INTEGERS, **ENUMERATIONS, BOOLEAN: "?"}[code]
+    form = {**INTEGERS, **ENUMERATIONS, BOOLEAN: "B"}[code]
     return struct.pack(order + form, value)
 
 
@@ -168,8 +168,6 @@ def walked(tree: Type, data: bytes, start: int = 0) -> int:
         raise Bad
     if tree.code in ENUMERATIONS and int.from_bytes(piece, "big") >= len(tree.items):
         raise Bad
-    if tree.code == BOOLEAN and piece[0] > 1:
-        raise Bad
     return start + width
 
 
@@ -230,7 +228,7 @@ def values(tree: Type) -> st.SearchStrategy[Any]:
     if tree.code in ENUMERATIONS:
         return st.integers(0, len(tree.items) - 1)
     if tree.code == BOOLEAN:
-        return st.booleans()
+        return st.sampled_from([0, 1]) | st.integers(0, 255)
     if tree.code == STRING:
         return st.binary(max_size=8)
     if tree.code in (CLUSTER, STAMP):

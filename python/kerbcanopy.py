@@ -58,7 +58,6 @@ MEANINGS: Dict[int, str] = {
     21: "the data ends inside this piece",
     22: "a length or size is 2147483648 or more",
     23: "the enumeration has no item of this number",
-    24: "the Boolean is neither 0 nor 1",
     25: "bytes are left over",
     30: "the step leads nowhere: there is no such part",
     31: "there is no single number: a string, array, cluster, time stamp, extended or complex number",
@@ -77,7 +76,7 @@ _INPUTS = {1: "the first or the writer's descriptor", 2: "the second or the read
 class Refusal(Exception):
     """What the library refuses: the number, the input at fault (1 the first or the writer's descriptor, 2 the second or the reader's,
     3 the data, 4 the request) and a place. For 2 to 11 the place is the first byte of the descriptor at fault, for 12 the descriptor's
-    size, for 21 to 24 the first byte of the piece at fault, for 25 the first byte left over, for 30 the step, for 40 and 42 to 44 the
+    size, for 21 to 23 the first byte of the piece at fault, for 25 the first byte left over, for 30 the step, for 40 and 42 to 44 the
     reader's member, both counted from 0, and for 50 the length needed; else it is 0.
     """
 
@@ -129,7 +128,9 @@ class Kind(enum.IntEnum):
 
 @dataclass(frozen=True)
 class Value:
-    """A number by its kind and its exact bits: a signed one in 64-bit two's complement, a single in the low 32."""
+    """A number by its kind and its exact bits: a signed one in 64-bit two's complement, a single in the low 32. A flag's are 0 or 1,
+    whatever its byte.
+    """
 
     kind: Kind
     bits: int
@@ -367,7 +368,7 @@ def normal_form_into(descriptor: Bytes, out: Room) -> int:
 def check_data(descriptor: Bytes, data: Bytes) -> int:
     """Walks the data under its descriptor, and returns how many pieces it has: scalars, whole strings, and the sizes of arrays.
 
-    Refused: 1 to 12 with input 1, 20 to 25 with input 3.
+    Refused: 1 to 12 with input 1, 20 to 23 or 25 with input 3.
     """
     return _accepted(_check_data(*_inputs(_lent(descriptor), _lent(data))))
 
@@ -377,7 +378,7 @@ def view(descriptor: Bytes, data: Bytes, path: Sequence[int] = ()) -> memoryview
     element's number in an array, counted from 0, or 0 in a time stamp; the empty path is the whole data. The part is of the bytes lent, or
     of a copy where they were not `bytes`.
 
-    Refused: 1 to 12 with input 1, 20 to 25 with input 3, 30 with input 4 where a step leads nowhere.
+    Refused: 1 to 12 with input 1, 20 to 23 or 25 with input 3, 30 with input 4 where a step leads nowhere.
     """
     lent = _lent(data)
     part = _view(*_inputs(_lent(descriptor), lent), *_steps(path))
@@ -386,7 +387,8 @@ def view(descriptor: Bytes, data: Bytes, path: Sequence[int] = ()) -> memoryview
 
 
 def read_value(descriptor: Bytes, data: Bytes, path: Sequence[int] = ()) -> Value:
-    """The number at the end of the path, whose steps are those of `view`.
+    """The number at the end of the path, whose steps are those of `view`. A Boolean is false for the byte 00 and true for every other;
+    `view` gives the byte itself.
 
     Refused: as `view`; then 31 with input 4 where there is no single number.
     """
@@ -398,7 +400,7 @@ def read_value(descriptor: Bytes, data: Bytes, path: Sequence[int] = ()) -> Valu
 def to_little_endian(descriptor: Bytes, data: Bytes) -> bytes:
     """The data's little-endian form: each number turned around where it stands.
 
-    Refused: 1 to 12 with input 1, 20 to 25 with input 3.
+    Refused: 1 to 12 with input 1, 20 to 23 or 25 with input 3.
     """
     lent = _lent(data)
     return _given(_to_little_endian, [_lent(descriptor), lent], min(len(lent), DATA_LIMIT))
@@ -415,7 +417,7 @@ def to_little_endian_into(descriptor: Bytes, data: Bytes, out: Room) -> int:
 def from_little_endian(descriptor: Bytes, data: Bytes) -> bytes:
     """The data whose little-endian form is lent.
 
-    Refused: 1 to 12 with input 1; 20 to 25 with input 3, as the walk with its words read reversed has them.
+    Refused: 1 to 12 with input 1; 20 to 23 or 25 with input 3, as the walk with its words read reversed has them.
     """
     lent = _lent(data)
     return _given(_from_little_endian, [_lent(descriptor), lent], min(len(lent), DATA_LIMIT))
@@ -433,8 +435,8 @@ def read_record(writer: Bytes, reader: Bytes, data: Bytes) -> bytes:
     """The members that the reader asks for, out of data under the writer's descriptor: for each of the reader's members in order, the
     bytes of the writer's one member of that name and an equal type. They are data under the reader's descriptor.
 
-    Refused: 1 to 12 with input 1 for the writer or 2 for the reader; 20 to 25 with input 3; 40 with input 2 where the reader is no
-    cluster of members with distinct names that are not empty; 41 with input 1; 42 to 44 with input 2 for the first member that is
+    Refused: 1 to 12 with input 1 for the writer or 2 for the reader; 20 to 23 or 25 with input 3; 40 with input 2 where the reader is
+    no cluster of members with distinct names that are not empty; 41 with input 1; 42 to 44 with input 2 for the first member that is
     missing, doubled or of another type.
     """
     lent = _lent(data)

@@ -23,7 +23,10 @@ def raw(text: str) -> bytes:
 RIG = raw("0014 0050 0002 0006 0002 0174 0008 0007 0269 6400")
 READER = raw("000E 0050 0001 0008 0007 0269 6400")
 DATA = raw("0019 0000 0009")
-WORD, FLAG, TEXT = raw("0004 0003"), raw("0004 0021"), raw("0008 0030 FFFF FFFF")
+#: A rig whose second member is a Boolean, and a reader of that.
+LAMP = raw("0016 0050 0002 0008 0007 0269 6400 0008 0021 036C 6974")
+LIT = raw("000E 0050 0001 0008 0021 036C 6974")
+WORD, TEXT = raw("0004 0003"), raw("0008 0030 FFFF FFFF")
 ARRAY = raw("000E 0040 0001 FFFF FFFF 0004 000A")
 ITEMS = raw("0016 0015 0003 0261 6D02 666D 0966 6D20 7374 6572 656F")
 STAMP = raw("001C 0054 0006 0016 0050 0004 0004 0003 0004 0003 0004 0007 0004 0007")
@@ -65,7 +68,6 @@ DATAS: Dict[int, Tuple[bytes, bytes, int]] = {
     21: (RIG, DATA[:5], 2),
     22: (ARRAY, raw("8000 0000"), 0),
     23: (ITEMS, b"\3", 0),
-    24: (cluster(WORD, FLAG), raw("0000 0001 02"), 4),
     25: (WORD, bytes(5), 4),
 }
 
@@ -132,12 +134,24 @@ class Questions(Case):
             (0x09, "41A40000", Value(Kind.SINGLE, 0x41A40000), 20.5),
             (0x0A, "C000000000000000", Value(Kind.DOUBLE, 0xC000000000000000), -2.0),
             (0x21, "01", Value(Kind.FLAG, 1), True),
+            (0x21, "02", Value(Kind.FLAG, 1), True),
+            (0x21, "FF", Value(Kind.FLAG, 1), True),
             (0x21, "00", Value(Kind.FLAG, 0), False),
         ]
         for code, data, value, number in cases:
             read = kerbcanopy.read_value(bytes([0, 4, 0, code]), raw(data))
             self.assertEqual((read, read.value, type(read.value)), (value, number, type(number)))
         self.assertEqual(kerbcanopy.read_value(ITEMS, b"\2").value, 2)
+
+    def test_a_boolean_keeps_its_byte(self) -> None:
+        for byte in range(256):
+            data = raw("0000 0009") + bytes([byte])
+            self.assertEqual(kerbcanopy.check_data(LAMP, data), 2)
+            self.assertEqual(kerbcanopy.read_value(LAMP, data, [1]), Value(Kind.FLAG, int(byte != 0)))
+            self.assertEqual(kerbcanopy.view(LAMP, data, [1]), data[4:])
+            self.assertEqual(kerbcanopy.to_little_endian(LAMP, data), raw("0900 0000") + data[4:])
+            self.assertEqual(kerbcanopy.from_little_endian(LAMP, raw("0900 0000") + data[4:]), data)
+            self.assertEqual(kerbcanopy.read_record(LAMP, LIT, data), data[4:])
 
     def test_the_bits_of_what_is_no_number_are_kept(self) -> None:
         for code, data in ((0x09, "7F800001"), (0x0A, "FFF4000000000001")):
@@ -263,7 +277,7 @@ class Refusals(Case):
 
     def test_every_number_is_met_and_has_its_words(self) -> None:
         self.assertEqual({*DESCRIPTORS, *DATAS, *RECORDS, 30, 31, 32, 50}, set(kerbcanopy.MEANINGS))
-        self.assertEqual(len(set(kerbcanopy.MEANINGS.values())), 27)
+        self.assertEqual(len(set(kerbcanopy.MEANINGS.values())), 26)
         refusal = self.refused((21, 3, 2), kerbcanopy.check_data, RIG, DATA[:5])
         self.assertEqual(str(refusal), "refused with 21: the data ends inside this piece (input 3, the data; place 2)")
         self.assertEqual(pickle.loads(pickle.dumps(refusal)).args, refusal.args)

@@ -157,7 +157,7 @@ class Data(unittest.TestCase):
         try:
             big = kerbcanopy.from_little_endian(descriptor, given_)
         except kerbcanopy.Refusal as refusal:
-            self.assertIn(refusal.number, range(20, 26))
+            self.assertIn(refusal.number, (20, 21, 22, 23, 25))
         else:
             self.assertEqual(kerbcanopy.to_little_endian(descriptor, big), given_)
 
@@ -173,7 +173,8 @@ class Data(unittest.TestCase):
         single = below.code in (0x09, 0x19, 0x0A, 0x1A)
         if below.code in described.INTEGERS or below.code in described.ENUMERATIONS or below.code == described.BOOLEAN:
             read = kerbcanopy.read_value(descriptor, data, path)
-            self.assertEqual((read.value, type(read.value)), (part, type(part)))
+            number = part != 0 if below.code == described.BOOLEAN else part
+            self.assertEqual((read.value, type(read.value)), (number, type(number)))
         elif single:
             self.assertEqual(kerbcanopy.read_value(descriptor, data, path).bits, int.from_bytes(part[0], "big"))
         else:

@@ -1,6 +1,6 @@
 #!/bin/sh
-# What `make run` shows: a record read by name, the same record with its members moved, a damaged one refused with its byte marked, and
-# time stamps with the time between them.
+# What `make run` shows: a record read by name, the same record with its members moved, a damaged one refused with its byte marked,
+# time stamps with the time between them, and a Boolean whose byte is neither 00 nor 01.
 # It runs the command kerbcanopy that stands on the path, from the repository's root.
 set -u
 
@@ -38,3 +38,7 @@ run read samples/rig.hex samples/reader.hex samples/data/rig-cut.hex
 say "A record with time stamps, and the time between them:"
 run dump samples/coat.hex samples/data/coat.hex
 run difference samples/coat.hex samples/data/coat.hex end start
+
+say "A rig that sends FF for true. It is true, and a reader gets the byte as it came:"
+run dump samples/lamp.hex samples/data/lamp.hex
+run read samples/lamp.hex samples/reader-lit.hex samples/data/lamp.hex

@@ -1,6 +1,6 @@
 /*
- * Inputs for the tests of the C side, as hexadecimal text, time stamps as their four integers, and what document 01 and request 1 of
- * document 02 say of them. Each number that they give is met once.
+ * Inputs for the tests of the C side, as hexadecimal text, time stamps as their four integers, and what document 01 and the requests 1
+ * and 2 of document 02 say of them. Each number that they give is met once.
  */
 #ifndef CASES_H
 #define CASES_H
@@ -43,12 +43,17 @@ typedef struct {
 #define RIG "0014 0050 0002 0006 0002 0174 0008 0007 0269 6400"
 #define RIG_DATA "0019 0000 0009"
 #define READER "000E 0050 0001 0008 0007 0269 6400"
+#define LAMP "0016 0050 0002 0008 0007 0269 6400 0008 0021 036C 6974"
+#define LAMP_DATA "0000 0009 FF"
+#define LIT "000E 0050 0001 0008 0021 036C 6974"
 #define NINE_DEEP \
     "0034 0050 0001 002E 0050 0001 0028 0050 0001 0022 0050 0001 001C 0050 0001 0016 0050 0001 0010 0050 0001 000A 0050 0001 0004 0003"
 
 static const one_case cases[] = {
     { "a value", { RIG, "", 0 }, NO_TEXT, { RIG_DATA, "", 0 }, { 1, 0 }, 1, 6, 0, 0, 0 },
     { "a record", { RIG, "", 0 }, { READER, "", 0 }, { RIG_DATA, "", 0 }, { 0, 0 }, 1, 6, 0, 0, 4 },
+    { "a Boolean of FF", { LAMP, "", 0 }, NO_TEXT, { LAMP_DATA, "", 0 }, { 1, 0 }, 1, 6, 0, 0, 0 },
+    { "a record with it", { LAMP, "", 0 }, { LIT, "", 0 }, { LAMP_DATA, "", 0 }, { 0, 0 }, 1, 6, 0, 0, 1 },
     { "the rig as its own reader", { RIG, "", 0 }, { RIG, "", 0 }, { RIG_DATA, "", 0 }, { 0, 0 }, 1, CASE_ROOM, 0, 0, 6 },
     { "descriptor over 4,096 bytes", { "", "00", 4097 }, NO_TEXT, NO_TEXT, { 0, 0 }, 0, 0, 1, 1, 0 },
     { "under 4 bytes left", { "0004 00", "", 0 }, NO_TEXT, NO_TEXT, { 0, 0 }, 0, 0, 2, 1, 0 },
@@ -66,7 +71,6 @@ static const one_case cases[] = {
     { "data ends inside a piece", { RIG, "", 0 }, NO_TEXT, { "0019 00", "", 0 }, { 0, 0 }, 0, 6, 21, 3, 2 },
     { "a length of 2^31", { "0008 0030 FFFF FFFF", "", 0 }, NO_TEXT, { "8000 0000", "", 0 }, { 0, 0 }, 0, 0, 22, 3, 0 },
     { "enumeration too high", { "0008 0015 0001 0161", "", 0 }, NO_TEXT, { "01", "", 0 }, { 0, 0 }, 0, 0, 23, 3, 0 },
-    { "Boolean over 1", { "0004 0021", "", 0 }, NO_TEXT, { "02", "", 0 }, { 0, 0 }, 0, 0, 24, 3, 0 },
     { "bytes left over", { "0004 0005", "", 0 }, NO_TEXT, { "0000", "", 0 }, { 0, 0 }, 0, 0, 25, 3, 1 },
     { "step out of range", { RIG, "", 0 }, NO_TEXT, { RIG_DATA, "", 0 }, { 1, 7 }, 2, 6, 30, 4, 1 },
     { "no single number", { RIG, "", 0 }, NO_TEXT, { RIG_DATA, "", 0 }, { 0, 0 }, 0, 6, 31, 4, 0 },

@@ -1,6 +1,7 @@
 /*
  * The header against the figures of layout.def, against the documents 01 and 02 and against the library: the layout of every struct,
- * the version, and each named constant by an answer that has it. Builds as C and as C++; run from the repository's root.
+ * the version, each named constant by an answer that has it, and a Boolean of each byte. Builds as C and as C++; run from the
+ * repository's root.
  */
 #include "cases.h"
 
@@ -48,7 +49,7 @@ static const constant constants[] = {
     IS(KC_REFUSED_HEADER, 2), IS(KC_REFUSED_SIZE_BIT, 3), IS(KC_REFUSED_SIZE, 4), IS(KC_REFUSED_CODE, 5), IS(KC_REFUSED_DEPTH, 6),
     IS(KC_REFUSED_ROWS, 7), IS(KC_REFUSED_BODY, 8), IS(KC_REFUSED_COUNT, 9), IS(KC_REFUSED_CONTENTS, 10), IS(KC_REFUSED_NAME, 11),
     IS(KC_REFUSED_AFTER_TOP, 12), IS(KC_REFUSED_DATA_LENGTH, 20), IS(KC_REFUSED_DATA_END, 21), IS(KC_REFUSED_LENGTH, 22),
-    IS(KC_REFUSED_ENUMERATION, 23), IS(KC_REFUSED_BOOLEAN, 24), IS(KC_REFUSED_LEFT_OVER, 25), IS(KC_REFUSED_STEP, 30),
+    IS(KC_REFUSED_ENUMERATION, 23), IS(KC_REFUSED_LEFT_OVER, 25), IS(KC_REFUSED_STEP, 30),
     IS(KC_REFUSED_NO_NUMBER, 31), IS(KC_REFUSED_DIFFERENCE, 32), IS(KC_REFUSED_READER, 40), IS(KC_REFUSED_WRITER, 41),
     IS(KC_REFUSED_MISSING, 42), IS(KC_REFUSED_DOUBLED, 43), IS(KC_REFUSED_TYPE, 44), IS(KC_REFUSED_ROOM, 50), IS(KC_INPUT_NONE, 0),
     IS(KC_INPUT_FIRST, 1), IS(KC_INPUT_WRITER, 1), IS(KC_INPUT_SECOND, 2), IS(KC_INPUT_READER, 2), IS(KC_INPUT_DATA, 3),
@@ -159,6 +160,36 @@ static void test_kind(const char *descriptor, const char *value, uint32_t kind, 
     report(v.kind == kind && v.bits == bits, "kind", descriptor);
 }
 
+/* Whether the lamp rig's record with this byte is true or false by it, and each answer has the byte as it came. */
+static bool keeps(uint8_t byte)
+{
+    uint8_t big[5] = { 0, 0, 0, 9, byte }, little[5], back[5], record[1];
+    const uint32_t lit = 1;
+    kc_value v = kc_read_value(first.bytes, first.length, big, sizeof big, &lit, 1);
+    kc_part p = kc_view(first.bytes, first.length, big, sizeof big, &lit, 1);
+    kc_answer turned = kc_to_little_endian(first.bytes, first.length, big, sizeof big, little, sizeof little);
+    kc_answer returned = kc_from_little_endian(first.bytes, first.length, little, sizeof little, back, sizeof back);
+    kc_answer given = kc_read_record(first.bytes, first.length, second.bytes, second.length, big, sizeof big, record, sizeof record);
+    return v.answer.number == KC_ACCEPTED && v.kind == KC_KIND_FLAG && v.bits == (byte != 0)
+        && p.answer.number == KC_ACCEPTED && p.start == 4 && p.length == 1
+        && turned.number == KC_ACCEPTED && little[0] == 9 && little[4] == byte
+        && returned.number == KC_ACCEPTED && memcmp(back, big, sizeof big) == 0
+        && given.number == KC_ACCEPTED && given.place == 1 && record[0] == byte;
+}
+
+/* Request 2 of document 02: a Boolean's byte may be any. */
+static void test_flags(void)
+{
+    bool good = true;
+    first.length = second.length = 0;
+    add_hex(&first, LAMP);
+    add_hex(&second, LIT);
+    for (unsigned byte = 0; byte < 256; byte++) {
+        good = good && keeps((uint8_t)byte);
+    }
+    report(good, "a Boolean of each byte", "");
+}
+
 /* A descriptor whose count is given, with one part of it repeated as often. */
 static uint32_t counted(unsigned code, unsigned count, const char *unit, const char *end)
 {
@@ -255,7 +286,10 @@ int main(void)
     test_kind("0004 0009", "7FC0 0001", KC_KIND_SINGLE, 0x7FC00001);
     test_kind("0004 000A", "C000 0000 0000 0001", KC_KIND_DOUBLE, 0xC000000000000001);
     test_kind("0004 0021", "01", KC_KIND_FLAG, 1);
+    test_kind("0004 0021", "FF", KC_KIND_FLAG, 1);
+    test_kind("0004 0021", "00", KC_KIND_FLAG, 0);
     test_kind("0004 000B", "0000", KC_KIND_NONE, 0);
+    test_flags();
     test_limits();
     test_version();
     return all_ok ? 0 : 1;

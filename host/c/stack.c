@@ -498,9 +498,8 @@ static bool ask_small(void) {
 /* Each entry was accepted and was refused with the numbers that stand for its parts, so the questions are what they are meant to be. */
 static bool answered(void) {
     static const unsigned numbers[INTO][16] = {
-        {2, 4, 6, 11, 12}, {2, 4, 6, 11, 12}, {6, 12, 50}, {6, 12, 21, 22, 23, 24, 25}, {6, 21, 22, 23, 24, 25, 30},
-        {6, 21, 22, 23, 24, 25, 30, 31}, {6, 21, 22, 23, 24, 25, 50}, {6, 21, 22, 23, 24, 25, 50}, {6, 21, 22, 23, 24, 25, 40, 44, 50},
-        {32},
+        {2, 4, 6, 11, 12}, {2, 4, 6, 11, 12}, {6, 12, 50}, {6, 12, 21, 22, 23, 25}, {6, 21, 22, 23, 25, 30},
+        {6, 21, 22, 23, 25, 30, 31}, {6, 21, 22, 23, 25, 50}, {6, 21, 22, 23, 25, 50}, {6, 21, 22, 23, 25, 40, 44, 50}, {32},
     };
     bool good = true;
     for (int e = 0; e < ENTRIES; e++) {

@@ -1,14 +1,13 @@
 -- "Each piece starts exactly where the one before it ended": the tokens that a walk reads are a chain from its start to its end, in either
 -- byte order. Rests on the definitions of the walk, and on types whose every token takes a byte.
 use mathlib.Core.Path.{refl}
-use mathlib.Core.Bool.{Bool, not, _||_}
+use mathlib.Core.Bool.{Bool, true}
 use mathlib.Core.List.{List, _++_}
 use Prim.Native.Nat.{ℕ, zero, suc, _+_, _<_, _≤_}
 use native.Mathlib.Omega.{arith}
 use borrow.Author.Tests.{leb-true}
-use lib.Dec.{leb, ltb, eqb}
-use lib.ListN.{length, getD}
-use Rattle.descriptor.specs.Codes.{booleanCode}
+use lib.Dec.{leb, ltb}
+use lib.ListN.{length}
 use Rattle.descriptor.specs.Limits.{lengthLimit}
 use Rattle.descriptor.specs.Outcome.{Outcome}
 use Rattle.descriptor.specs.Tree.{Fields, empty, items, pairs, text, dimensions, members, subtype, Tree, node, Forest, nil, cons}
@@ -16,7 +15,7 @@ use Rattle.descriptor.specs.Width.{widthOf}
 use Rattle.descriptor.proofs.Outcomes.{Holds, found, holds-require, holds-andThen}
 use Rattle.flattened.specs.Order.{Order, numberAt}
 use Rattle.flattened.specs.Token.{Token, Chain, done, link}
-use Rattle.flattened.specs.Walk.{scalarAt, plainAt, textAt, follow, repeat, walkFields, walk, walkAll}
+use Rattle.flattened.specs.Walk.{scalarAt, textAt, follow, repeat, walkFields, walk, walkAll}
 use Rattle.flattened.specs.inner.Types.{SolidFields, Solid, AllSolid}
 use Rattle.flattened.proofs.Forward.{sizes-end}
 
@@ -43,9 +42,9 @@ module _ (s : List ℕ) where
       holds-andThen h (λ q ts e. holds-andThen (k q (e .inside)) (λ r us f. found (record { chain = chain-append (e .chain) (f .chain); inside = f .inside })))
 
   -- a scalar that has a width
-  scalar-chain : (c at : ℕ) (fits : Bool) (number : ℕ) → 0 < widthOf c → Holds (λ q ts. Chained s at q ts) (scalarAt c s at fits number)
+  scalar-chain : (c at : ℕ) (fits : Bool) → 0 < widthOf c → Holds (λ q ts. Chained s at q ts) (scalarAt c s at fits)
   unfolding scalarAt
-  scalar-chain c at fits number some =
+  scalar-chain c at fits some =
       holds-require (leb (at + widthOf c) (length s)) _ _ (λ room.
       holds-require fits _ _ (λ _. found (record { chain = link refl (omega arith) done; inside = leb-true _ _ room })))
 
@@ -69,10 +68,10 @@ module _ (s : List ℕ) where
   fields-chain : (o : Order) (c : ℕ) (b : Fields) (f : Forest) (inside : ℕ → Outcome (List Token)) → SolidFields c b f
       → ((a : ℕ) → a ≤ length s → Holds (λ q ts. Chained s a q ts) (inside a)) → (at : ℕ) → at ≤ length s
       → Holds (λ q ts. Chained s at q ts) (walkFields o c b inside s at)
-  unfolding walkFields plainAt SolidFields
-  fields-chain o c empty f inside some each at h = scalar-chain c at (not (eqb c booleanCode) || leb (getD s at 0) 1) 24 some
-  fields-chain o c (items xs) f inside some each at h = scalar-chain c at (ltb (numberAt o s at (widthOf c)) (length xs)) 23 some
-  fields-chain o c (pairs ps) f inside some each at h = scalar-chain c at (not (eqb c booleanCode) || leb (getD s at 0) 1) 24 some
+  unfolding walkFields SolidFields
+  fields-chain o c empty f inside some each at h = scalar-chain c at true some
+  fields-chain o c (items xs) f inside some each at h = scalar-chain c at (ltb (numberAt o s at (widthOf c)) (length xs)) some
+  fields-chain o c (pairs ps) f inside some each at h = scalar-chain c at true some
   fields-chain o c text f inside some each at h = text-chain o at
   fields-chain o c (dimensions k) f inside some each at h =
       holds-andThen (sizes-end s o k at) (λ next n e.

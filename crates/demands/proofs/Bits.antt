@@ -1,15 +1,15 @@
 -- Document 01's values "whose bits equal the big-endian bytes of the piece": a value that is read by path is that of its part, and its bits are
--- the part's bytes, of a signed number modulo 256 ^ width. The public entry whose contract uses these definitions is read_value.
+-- the part's bytes, of a signed number modulo 256 ^ width, of a flag 1 for any byte but zero. The public entry of these definitions is read_value.
 -- Rests on the parts at paths, on the values of codes and on the laws of numbers.
 use mathlib.Core.Path.{_≡_, refl, sym, ap, subst, _∙_}
-use mathlib.Core.Bool.{Bool, true, false, not, cond, _||_}
+use mathlib.Core.Bool.{Bool, true, false, not, cond}
 use mathlib.Core.Logic.{_⊎_, ⊎-elim}
 use mathlib.Core.List.{List, [], _∷_}
 use Prim.Native.Nat.{ℕ, zero, suc, _+_, _-_, _*_, _%_, _^_, _<_, _≤_}
 use native.Mathlib.Nat.{mod-eq-of-lt, add-mul-mod-self-right}
 use native.Mathlib.Decide.{decLt}
 use native.Mathlib.Omega.{arith}
-use borrow.Author.Tests.{leb-true, eqb-true}
+use borrow.Author.Tests.{eqb-true}
 use lib.Dec.{leb, ltb, eqb}
 use lib.ListN.{length, getD}
 use lib.Pow.{pow-add}
@@ -25,7 +25,7 @@ use Rattle.number.proofs.Reading.{be-more, be-bound}
 use Rattle.number.proofs.Complement.{half-bit, stays, falls}
 use Rattle.number.proofs.Pattern.{single-bits, double-bits}
 use Rattle.descriptor.specs.Limits.{dataLimit}
-use Rattle.descriptor.specs.Codes.{plain, enumeration, kindOf, isArray, between, booleanCode}
+use Rattle.descriptor.specs.Codes.{plain, enumeration, kindOf, isArray, between}
 use Rattle.descriptor.specs.Tree.{empty, items, pairs, text, dimensions, members, subtype, Tree, node, Forest, nil, cons}
 use Rattle.descriptor.specs.Encoding.{Bytes, FieldsFit, WellFormed, AllWellFormed}
 use Rattle.descriptor.specs.Width.{widthOf}
@@ -38,13 +38,14 @@ use Rattle.descriptor.proofs.Outcomes.{Holds, nothing, found, holds-read, holds
 use Rattle.encoding.proofs.Slices.{bytes-at}
 use Rattle.flattened.specs.Order.{big}
 use Rattle.flattened.specs.Token.{Token}
-use Rattle.flattened.specs.Walk.{scalarAt, plainAt, arrayAt, repeat, walkFields, walk, walkAll, walked}
+use Rattle.flattened.specs.Walk.{scalarAt, arrayAt, repeat, walkFields, walk, walkAll, walked}
 use Rattle.flattened.specs.Answers.{dataCheck}
 use Rattle.flattened.proofs.Codes.{isMeasured}
 use Rattle.access.specs.Path.{Spot, memberAt, stepAt, stepInto, spotAt, located}
 use Rattle.reading.specs.Values.{ofSingle, ofDouble, complement, valueKind, valueBits, valueOf, isValue, codeOf, valueAt, numberOf, noValue, readValue}
 use Rattle.access.specs.declared.part.Part.{Part}
 use Rattle.reading.specs.declared.value.Value.{Value}
+use Rattle.reading.specs.declared.value.Value.the-variants.{Flag}
 use Rattle.reading.specs.declared.value.Reading.{Reading}
 use Rattle.reading.proofs.Values.{inside, single-width, signed-narrow, value-signed, value-unsigned, value-enumeration, value-single, value-double, value-flag}
 use Rattle.flattened.proofs.Refusals.{refused-number}
@@ -122,50 +123,20 @@ module _ (s : List ℕ) where
   path-formed [] i x w = found w
   path-formed (k ∷ ks) i x w = holds-andThen (step-formed (w .inArray) i (x .type) k (x .start) (w .formed)) (λ _ y h. path-formed ks (i + 1) y h)
 
-  scalar-stop : (c at : ℕ) (fits : Bool) (number : ℕ) → Holds (λ b ts. b ≡ at + widthOf c) (scalarAt c s at fits number)
+  scalar-stop : (c at : ℕ) (fits : Bool) → Holds (λ b ts. b ≡ at + widthOf c) (scalarAt c s at fits)
   unfolding scalarAt
-  scalar-stop c at fits number = holds-require (leb (at + widthOf c) (length s)) 21 at (λ _. holds-require fits number at (λ _. found refl))
+  scalar-stop c at fits = holds-require (leb (at + widthOf c) (length s)) 21 at (λ _. holds-require fits 23 at (λ _. found refl))
 
   -- the data of such a code is as long as its width
   number-stop : (t : Tree) (at b : ℕ) (ts : List Token) → Formed t → Number (codeOf t) → walk big t s at ≡ read b ts → b ≡ at + widthOf (codeOf t)
-  unfolding walk walkFields plainAt WellFormed FieldsFit isMeasured
-  number-stop (node c empty f m) at b ts w n e = holds-read e (scalar-stop c at _ 24)
-  number-stop (node c (items xs) f m) at b ts w n e = holds-read e (scalar-stop c at _ 23)
-  number-stop (node c (pairs ps) f m) at b ts w n e = holds-read e (scalar-stop c at _ 24)
+  unfolding walk walkFields WellFormed FieldsFit isMeasured
+  number-stop (node c empty f m) at b ts w n e = holds-read e (scalar-stop c at true)
+  number-stop (node c (items xs) f m) at b ts w n e = holds-read e (scalar-stop c at _)
+  number-stop (node c (pairs ps) f m) at b ts w n e = holds-read e (scalar-stop c at true)
   number-stop (node c text f m) at b ts w n e = impossible (sym (ap isMeasured (w .formed .fields)) ∙ measured n)
   number-stop (node c (dimensions k) f m) at b ts w n e = impossible (sym (ap isMeasured (w .formed .fields .0)) ∙ measured n)
   number-stop (node c (members k) f m) at b ts w n e = impossible (sym (ap isMeasured (w .formed .fields .0)) ∙ measured n)
   number-stop (node c subtype f m) at b ts w n e = impossible (sym (ap isMeasured (w .formed .fields)) ∙ measured n)
-
-  -- a flag's byte is 0 or 1
-  scalar-fits : (c at : ℕ) (fits : Bool) (number : ℕ) → Holds (λ b ts. fits ≡ true) (scalarAt c s at fits number)
-  unfolding scalarAt
-  scalar-fits c at fits number = holds-require (leb (at + widthOf c) (length s)) 21 at (λ _. holds-require fits number at (λ e. found e))
-
-  one-byte : (c at : ℕ) → c ≡ 33 → be s at (widthOf c) ≡ getD s at 0
-  unfolding be widthOf
-  one-byte c at h =
-      let e : at + 0 ≡ at = omega arith in
-      let one : be s at (widthOf c) ≡ be s at (0 + 1) = ap (λ (k : ℕ). be s at (widthOf k)) h in
-      omega (arith, one, be-more s at 0, ap (λ (k : ℕ). getD s k 0) e)
-
-  byte-low : (c at : ℕ) → c ≡ 33 → (not (eqb c booleanCode) || leb (getD s at 0) 1) ≡ true → be s at (widthOf c) ≤ 1
-  byte-low c at h e =
-      let small : leb (getD s at 0) 1 ≡ true = subst (λ (k : ℕ). (not (eqb k booleanCode) || leb (getD s at 0) 1) ≡ true) h e in
-      omega (arith, one-byte c at h, leb-true (getD s at 0) 1 small)
-
-  flag-low : (t : Tree) (at b : ℕ) (ts : List Token) → Formed t → walk big t s at ≡ read b ts → codeOf t ≡ 33 → be s at (widthOf (codeOf t)) ≤ 1
-  unfolding walk walkFields plainAt WellFormed FieldsFit isMeasured kindOf kindNumber
-  flag-low (node c empty f m) at b ts w e h = byte-low c at h (holds-read e (scalar-fits c at _ 24))
-  flag-low (node c (items xs) f m) at b ts w e h =
-      let one : kindNumber (kindOf c) ≡ kindNumber plain = ap (λ (k : ℕ). kindNumber (kindOf k)) h in
-      let two : kindNumber (kindOf c) ≡ kindNumber enumeration = ap kindNumber (w .formed .fields .0) in
-      absurd (omega (arith, one, two))
-  flag-low (node c (pairs ps) f m) at b ts w e h = byte-low c at h (holds-read e (scalar-fits c at _ 24))
-  flag-low (node c text f m) at b ts w e h = impossible (sym (ap isMeasured (w .formed .fields)) ∙ measured (flag h))
-  flag-low (node c (dimensions k) f m) at b ts w e h = impossible (sym (ap isMeasured (w .formed .fields .0)) ∙ measured (flag h))
-  flag-low (node c (members k) f m) at b ts w e h = impossible (sym (ap isMeasured (w .formed .fields .0)) ∙ measured (flag h))
-  flag-low (node c subtype f m) at b ts w e h = impossible (sym (ap isMeasured (w .formed .fields)) ∙ measured (flag h))
 
 -- an accepted value
 abbrev pub given : Value → Reading
@@ -179,11 +150,10 @@ pub record Reads (s : List ℕ) (a : Part) (r : Reading) : Type 0 where
   pub width : a .length ≡ widthOf code
   pub answer : r .answer ≡ accepted 0
   pub value : r .value ≡ valueOf code (be s (a .start) (a .length))
-  pub low : code ≡ 33 → be s (a .start) (a .length) ≤ 1
 
 reads-from : (s : List ℕ) {a : Part} {r : Reading} (c start : ℕ) → Number c → a ≡ partFrom start (widthOf c)
-    → r ≡ given (valueOf c (be s start (widthOf c))) → (c ≡ 33 → be s start (widthOf c) ≤ 1) → Reads s a r
-reads-from s c start n e g low = rw (e, g) (record { code = c; number = n; accepts = refl; width = refl; answer = refl; value = refl; low = low })
+    → r ≡ given (valueOf c (be s start (widthOf c))) → Reads s a r
+reads-from s c start n e g = rw (e, g) (record { code = c; number = n; accepts = refl; width = refl; answer = refl; value = refl })
 
 -- data of the descriptor d
 module _ (d : List ℕ) (x : Described d) (s : List ℕ) where
@@ -212,7 +182,7 @@ module _ (d : List ℕ) (x : Described d) (s : List ℕ) where
           let long : l .stop - y .start ≡ widthOf (codeOf (y .type)) = omega arith in
           reads-from s (codeOf (y .type)) (y .start) n
           (located-part d x s within all p l e ∙ ap (λ (k : ℕ). partFrom (y .start) k) long)
-          (read-spot ∙ rw (e, h) refl) (flag-low s (y .type) (y .start) (l .stop) (l .tokens) w (l .walks))
+          (read-spot ∙ rw (e, h) refl)
       valued {y = y} l w e false h =
           let other : readValue d s p ≡ noValue 31 4 0 = read-spot ∙ rw (e, h) refl in
           let same : readValue d s p .answer .number ≡ 31 = ap (λ (r : Reading). r .answer .number) other in
@@ -248,24 +218,19 @@ double-width : (c : ℕ) → (c ≡ 10) ⊎ (c ≡ 26) → widthOf c ≡ 8
 unfolding widthOf
 double-width c e = ⊎-elim (λ h. ap widthOf h) (λ h. ap widthOf h) e
 
-flag-bit : (v : ℕ) → v ≤ 1 → cond (eqb v 1) 1 0 ≡ v
-flag-bit zero h = refl
-flag-bit (suc zero) h = refl
-flag-bit (suc (suc v)) h = absurd (omega arith)
-
--- the bits of a value are its number, but for a signed one's
-exact-bits : (c v : ℕ) → Number c → 4 < c → v < 256 ^ widthOf c → (c ≡ 33 → v ≤ 1) → valueBits (valueOf c v) ≡ v
+-- the bits of a value are its number, but for a signed one's and a flag's
+exact-bits : (c v : ℕ) → Number c → 4 < c → (c ≡ 33 → ⊥) → v < 256 ^ widthOf c → valueBits (valueOf c v) ≡ v
 unfolding valueBits
-exact-bits c v (integer l h) more fits low = absurd (omega arith)
-exact-bits c v (natural l h) more fits low = ap valueBits (sym (value-unsigned c v l h))
-exact-bits c v (item l h) more fits low = ap valueBits (sym (value-enumeration c v l h))
-exact-bits c v (single e) more fits low =
+exact-bits c v (integer l h) more plainly fits = absurd (omega arith)
+exact-bits c v (natural l h) more plainly fits = ap valueBits (sym (value-unsigned c v l h))
+exact-bits c v (item l h) more plainly fits = ap valueBits (sym (value-enumeration c v l h))
+exact-bits c v (single e) more plainly fits =
     let short : v < 256 ^ 4 = subst (λ (n : ℕ). v < 256 ^ n) (single-width c e) fits in
     ap valueBits (sym (value-single c v e)) ∙ (of-single (singleOf v) ∙ single-bits v short)
-exact-bits c v (double e) more fits low =
+exact-bits c v (double e) more plainly fits =
     let short : v < 256 ^ 8 = subst (λ (n : ℕ). v < 256 ^ n) (double-width c e) fits in
     ap valueBits (sym (value-double c v e)) ∙ (of-double (doubleOf v) ∙ double-bits v short)
-exact-bits c v (flag h) more fits low = ap valueBits (sym (value-flag c v h)) ∙ flag-bit v (low h)
+exact-bits c v (flag h) more plainly fits = absurd (plainly h)
 
 -- and of a signed one the lowest, those of its width
 turn : (w m j v half : ℕ) → 2 * half ≡ m → m + j * m ≡ w → half ≤ v → v < m → (w - (half - 1 - (v - half) + 1)) % m ≡ v
@@ -286,6 +251,32 @@ times : (k m w : ℕ) → 0 < w → k * m ≡ w → (j : ℕ) × (m + j * m ≡ 
 times zero m w h e = absurd (omega arith)
 times (suc j) m w h e = (j, omega (arith, e))
 
+-- only the code of a Boolean has flags
+no-flag : (c v : ℕ) → (valueKind (valueOf c v) ≡ 5 → ⊥) → c ≡ 33 → ⊥
+unfolding valueKind
+no-flag c v other h = other (ap valueKind (sym (value-flag c v h)))
+
+-- a float is none
+single-kind : (x : Single) → valueKind (ofSingle x) ≡ 3
+unfolding valueKind ofSingle
+single-kind (singles.Number x) = refl
+single-kind (singles.Nan b) = refl
+
+double-kind : (x : Double) → valueKind (ofDouble x) ≡ 4
+unfolding valueKind ofDouble
+double-kind (doubles.Number x) = refl
+double-kind (doubles.Nan b) = refl
+
+-- and a flag is of that code
+flag-code : (c v : ℕ) → Number c → valueKind (valueOf c v) ≡ 5 → c ≡ 33
+unfolding valueKind
+flag-code c v (integer l h) e = absurd (let z : _≡_ {A = ℕ} 2 5 = ap valueKind (value-signed c v l h) ∙ e in omega arith)
+flag-code c v (natural l h) e = absurd (let z : _≡_ {A = ℕ} 1 5 = ap valueKind (value-unsigned c v l h) ∙ e in omega arith)
+flag-code c v (item l h) e = absurd (let z : _≡_ {A = ℕ} 1 5 = ap valueKind (value-enumeration c v l h) ∙ e in omega arith)
+flag-code c v (single h) e = absurd (let z : _≡_ {A = ℕ} 3 5 = sym (single-kind (singleOf v)) ∙ ap valueKind (value-single c v h) ∙ e in omega arith)
+flag-code c v (double h) e = absurd (let z : _≡_ {A = ℕ} 4 5 = sym (double-kind (doubleOf v)) ∙ ap valueKind (value-double c v h) ∙ e in omega arith)
+flag-code c v (flag h) e = h
+
 -- only the codes of signed integers have signed values
 unsigned : (c v : ℕ) → Number c → (valueKind (valueOf c v) ≡ 2 → ⊥) → 4 < c
 unfolding valueKind
@@ -299,20 +290,20 @@ unsigned c v (flag h) other = omega arith
 lowest : {x v m : ℕ} → x ≡ v → v < m → x % m ≡ v
 lowest {x} {v} {m} e l = ap (λ (k : ℕ). k % m) e ∙ mod-eq-of-lt l
 
-lowest-bits : (c v : ℕ) → Number c → v < 256 ^ widthOf c → (c ≡ 33 → v ≤ 1) → valueBits (valueOf c v) % 256 ^ widthOf c ≡ v
+lowest-bits : (c v : ℕ) → Number c → (c ≡ 33 → ⊥) → v < 256 ^ widthOf c → valueBits (valueOf c v) % 256 ^ widthOf c ≡ v
 unfolding valueBits
-lowest-bits c v (integer l h) fits low =
+lowest-bits c v (integer l h) plainly fits =
     let w = signed-narrow c l h in
     let full : 8 - widthOf c + widthOf c ≡ 8 = omega (arith, w .most) in
     let whole : 256 ^ (8 - widthOf c) * 256 ^ widthOf c ≡ 2 ^ 64 = sym (pow-add 256 (8 - widthOf c) (widthOf c)) ∙ ap (λ (k : ℕ). 256 ^ k) full in
     let j = times (256 ^ (8 - widthOf c)) (256 ^ widthOf c) (2 ^ 64) (omega arith) whole in
     ap (λ (x : Value). valueBits x % 256 ^ widthOf c) (sym (value-signed c v l h))
     ∙ signed-bits (widthOf c) v _ (j .0) (half-bit (widthOf c) (w .some) (w .most)) (j .1) fits
-lowest-bits c v (natural l h) fits low = lowest (exact-bits c v (natural l h) (omega arith) fits low) fits
-lowest-bits c v (item l h) fits low = lowest (exact-bits c v (item l h) (omega arith) fits low) fits
-lowest-bits c v (single e) fits low = lowest (exact-bits c v (single e) (⊎-elim (λ h. omega arith) (λ h. omega arith) e) fits low) fits
-lowest-bits c v (double e) fits low = lowest (exact-bits c v (double e) (⊎-elim (λ h. omega arith) (λ h. omega arith) e) fits low) fits
-lowest-bits c v (flag h) fits low = lowest (exact-bits c v (flag h) (omega arith) fits low) fits
+lowest-bits c v (natural l h) plainly fits = lowest (exact-bits c v (natural l h) (omega arith) plainly fits) fits
+lowest-bits c v (item l h) plainly fits = lowest (exact-bits c v (item l h) (omega arith) plainly fits) fits
+lowest-bits c v (single e) plainly fits = lowest (exact-bits c v (single e) (⊎-elim (λ h. omega arith) (λ h. omega arith) e) plainly fits) fits
+lowest-bits c v (double e) plainly fits = lowest (exact-bits c v (double e) (⊎-elim (λ h. omega arith) (λ h. omega arith) e) plainly fits) fits
+lowest-bits c v (flag h) plainly fits = absurd (plainly h)
 
 -- data of the descriptor d
 module _ (d : List ℕ) (x : Described d) (s : List ℕ) (bytes : Bytes s) (p : List ℕ) (none : readValue d s p .answer .number ≡ 0) where
@@ -328,16 +319,42 @@ module _ (d : List ℕ) (x : Described d) (s : List ℕ) (bytes : Bytes s) (p : 
   fits : be s (part .start) (part .length) < 256 ^ widthOf (reads .code)
   fits = subst (λ (n : ℕ). be s (part .start) (part .length) < 256 ^ n) (reads .width) (be-bound s (part .start) (bytes-at s bytes) (part .length))
 
-  -- the bits of a value are the big-endian number of its part's bytes, of a signed one modulo 256 ^ width
-  pub value-bits : bits % 256 ^ (part .length) ≡ be s (part .start) (part .length)
-  value-bits =
+  -- the kind of the value is that of the code's
+  told : (k : ℕ) → (valueKind (readValue d s p .value) ≡ k → ⊥) → valueKind (valueOf (reads .code) (be s (part .start) (part .length))) ≡ k → ⊥
+  told k other e = other (ap valueKind (reads .value) ∙ e)
+
+  -- the bits of a value, but for a flag's, are the big-endian number of its part's bytes, of a signed one modulo 256 ^ width
+  pub value-bits : (valueKind (readValue d s p .value) ≡ 5 → ⊥) → bits % 256 ^ (part .length) ≡ be s (part .start) (part .length)
+  value-bits other =
+      let plainly = no-flag (reads .code) (be s (part .start) (part .length)) (told 5 other) in
       ap (λ (n : ℕ). bits % 256 ^ n) (reads .width)
       ∙ (ap (λ (v : Value). valueBits v % 256 ^ widthOf (reads .code)) (reads .value)
-      ∙ lowest-bits (reads .code) (be s (part .start) (part .length)) (reads .number) fits (reads .low))
+      ∙ lowest-bits (reads .code) (be s (part .start) (part .length)) (reads .number) plainly fits)
 
   -- and any other's are that number itself
-  pub value-exact : (valueKind (readValue d s p .value) ≡ 2 → ⊥) → bits ≡ be s (part .start) (part .length)
-  value-exact other =
+  pub value-exact : (valueKind (readValue d s p .value) ≡ 2 → ⊥) → (valueKind (readValue d s p .value) ≡ 5 → ⊥) → bits ≡ be s (part .start) (part .length)
+  value-exact other flagless =
       let v = be s (part .start) (part .length) in
-      let more = unsigned (reads .code) v (reads .number) (λ e. other (ap valueKind (reads .value) ∙ e)) in
-      ap valueBits (reads .value) ∙ exact-bits (reads .code) v (reads .number) more fits (reads .low)
+      let plainly = no-flag (reads .code) v (told 5 flagless) in
+      let more = unsigned (reads .code) v (reads .number) (told 2 other) in
+      ap valueBits (reads .value) ∙ exact-bits (reads .code) v (reads .number) more plainly fits
+
+  -- a flag's are 1 where the one byte of its part is not zero: "any byte but zero is true" (document 02, CR 2)
+  pub flag-bits : valueKind (readValue d s p .value) ≡ 5 → (part .length ≡ 1) × (bits ≡ cond (eqb (getD s (part .start) 0) 0) 0 1)
+  unfolding valueBits widthOf be
+  flag-bits is =
+      let v = be s (part .start) (part .length) in
+      let code : reads .code ≡ 33 = flag-code (reads .code) v (reads .number) (sym (ap valueKind (reads .value)) ∙ is) in
+      let one : part .length ≡ 1 = reads .width ∙ ap widthOf code in
+      let byte : v ≡ getD s (part .start) 0 = one-byte (part .start) one in
+      (one, ap valueBits (reads .value) ∙ sym (ap valueBits (value-flag (reads .code) v code)) ∙ flag-bit v ∙ ap (λ (x : ℕ). cond (eqb x 0) 0 1) byte)
+    where
+      one-byte : (at : ℕ) {n : ℕ} → n ≡ 1 → be s at n ≡ getD s at 0
+      one-byte at e = ap (λ (k : ℕ). be s at k) e ∙ (let z : at + 0 ≡ at = omega arith in omega (arith, be-more s at 0, ap (λ (k : ℕ). getD s k 0) z))
+
+      flag-bit : (v : ℕ) → valueBits (Flag (not (eqb v 0))) ≡ cond (eqb v 0) 0 1
+      flag-bit v = go (eqb v 0)
+        where
+          go : (b : Bool) → valueBits (Flag (not b)) ≡ cond b 0 1
+          go true = refl
+          go false = refl

@@ -1,13 +1,13 @@
 -- A walk goes by the bytes that it goes over and by nothing else: where the same bytes stand elsewhere, it ends as far on. Rests on the
 -- definition of the walk alone.
 use mathlib.Core.Path.{_≡_, refl, sym, ap, subst, _∙_}
-use mathlib.Core.Bool.{Bool, true, false, not, _||_}
+use mathlib.Core.Bool.{Bool, true}
 use mathlib.Core.List.{List, [], _∷_, _++_}
 use Prim.Native.Nat.{ℕ, zero, suc, _+_, _*_, _≤_, _<_}
 use native.Mathlib.Nat.{add-assoc, add-zero}
 use native.Mathlib.Omega.{arith}
-use borrow.Author.Tests.{le-leb, eqb-true}
-use lib.Dec.{leb, ltb, eqb}
+use borrow.Author.Tests.{le-leb}
+use lib.Dec.{leb, ltb}
 use lib.ListN.{length, getD}
 use Rattle.number.specs.Endian.{be}
 use Rattle.descriptor.specs.Tree.{empty, items, pairs, text, dimensions, members, subtype, Tree, node, Forest, nil, cons}
@@ -17,7 +17,7 @@ use Rattle.descriptor.specs.Width.{widthOf}
 use Rattle.flattened.specs.Order.{big, numberAt}
 use Rattle.flattened.specs.Token.{scalar, string, sizes, Token}
 use Rattle.descriptor.specs.Limits.{lengthLimit}
-use Rattle.flattened.specs.Walk.{token, scalarAt, plainAt, textAt, sizesAt, sizesFit, arrayAt, follow, repeat, walkFields, walk, walkAll}
+use Rattle.flattened.specs.Walk.{token, scalarAt, textAt, sizesAt, sizesFit, arrayAt, follow, repeat, walkFields, walk, walkAll}
 
 -- the k bytes of s from a on stand in s′ from a′ on
 pub record Alike (s : List ℕ) (a : ℕ) (s′ : List ℕ) (a′ k : ℕ) : Type 0 where
@@ -49,37 +49,23 @@ module _ (s s′ : List ℕ) where
   abbrev Walks : ℕ → ℕ → Outcome (List Token) → Outcome (List Token) → Type 0
   Walks a a′ o o′ = Holds (λ b ts. Moves s a s′ a′ b o′) o
 
-  walks-scalar : (c a a′ number : ℕ) (fits fits′ : Bool) → (Alike s a s′ a′ (widthOf c) → fits ≡ fits′)
-      → Walks a a′ (scalarAt c s a fits number) (scalarAt c s′ a′ fits′ number)
+  walks-scalar : (c a a′ : ℕ) (fits fits′ : Bool) → (Alike s a s′ a′ (widthOf c) → fits ≡ fits′)
+      → Walks a a′ (scalarAt c s a fits) (scalarAt c s′ a′ fits′)
   unfolding scalarAt
-  walks-scalar c a a′ number fits fits′ same =
+  walks-scalar c a a′ fits fits′ same =
       holds-require (leb (a + widthOf c) (length s)) 21 a
       (λ _.
-      holds-require fits number a
+      holds-require fits 23 a
       (λ e.
       found {q = a + widthOf c}
       (record { taken = widthOf c; end = refl; moved = λ x. (token (scalar c) a′ (a′ + widthOf c) ∷ [], rw (le-leb _ _ (x .within), sym (same x) ∙ e) refl) })))
 
-  -- a Boolean's byte is judged alike
-  plain-alike : (c a a′ : ℕ) → Alike s a s′ a′ (widthOf c)
-      → (not (eqb c 33) || leb (getD s a 0) 1) ≡ (not (eqb c 33) || leb (getD s′ a′ 0) 1)
-  unfolding widthOf
-  plain-alike c a a′ x = flag (eqb c 33) refl
-    where
-      flag : (b : Bool) → eqb c 33 ≡ b → (not (eqb c 33) || leb (getD s a 0) 1) ≡ (not (eqb c 33) || leb (getD s′ a′ 0) 1)
-      flag true e =
-          let wide : widthOf c ≡ 1 = ap widthOf (eqb-true c 33 e) in
-          let byte : getD s (a + 0) 0 ≡ getD s′ (a′ + 0) 0 = x .same 0 (omega arith) in
-          rw (e, rw (add-zero a, add-zero a′) at byte) refl
-      flag false e = rw e refl
+  walks-plain : (c a a′ : ℕ) → Walks a a′ (scalarAt c s a true) (scalarAt c s′ a′ true)
+  walks-plain c a a′ = walks-scalar c a a′ true true (λ _. refl)
 
-  walks-plain : (c a a′ : ℕ) → Walks a a′ (plainAt c s a) (plainAt c s′ a′)
-  unfolding plainAt
-  walks-plain c a a′ = walks-scalar c a a′ 24 _ _ (plain-alike c a a′)
-
-  walks-items : (c n a a′ : ℕ) → Walks a a′ (scalarAt c s a (ltb (numberAt big s a (widthOf c)) n) 23) (scalarAt c s′ a′ (ltb (numberAt big s′ a′ (widthOf c)) n) 23)
+  walks-items : (c n a a′ : ℕ) → Walks a a′ (scalarAt c s a (ltb (numberAt big s a (widthOf c)) n)) (scalarAt c s′ a′ (ltb (numberAt big s′ a′ (widthOf c)) n))
   walks-items c n a a′ =
-      walks-scalar c a a′ 23 _ _ (λ x. ap (λ (v : ℕ). ltb v n) (alike-number a a′ (widthOf c) (widthOf c) (omega arith) x))
+      walks-scalar c a a′ _ _ (λ x. ap (λ (v : ℕ). ltb v n) (alike-number a a′ (widthOf c) (widthOf c) (omega arith) x))
 
   walks-text : (a a′ : ℕ) → Walks a a′ (textAt big s a) (textAt big s′ a′)
   unfolding textAt

@@ -1,7 +1,7 @@
 -- Document 01's "together the pieces are the whole data", for any part of the data: the tokens that a walk gives, joined, are the bytes that
 -- it goes over. Rests on the definition of the walk alone.
 use mathlib.Core.Path.{_≡_, refl, sym, ap, _∙_}
-use mathlib.Core.Bool.{Bool}
+use mathlib.Core.Bool.{Bool, true}
 use mathlib.Core.List.{List, [], _∷_, _++_, append-assoc, append-nil}
 use Prim.Native.Nat.{ℕ, zero, suc, _+_, _*_, _≤_}
 use native.Mathlib.Omega.{arith}
@@ -17,7 +17,7 @@ use Rattle.descriptor.specs.Width.{widthOf}
 use Rattle.flattened.specs.Order.{Order, numberAt}
 use Rattle.flattened.specs.Token.{TokenKind, string, Token, tokenBytes, joined}
 use Rattle.descriptor.specs.Limits.{lengthLimit}
-use Rattle.flattened.specs.Walk.{token, scalarAt, plainAt, textAt, sizesAt, sizesFit, arrayAt, follow, repeat, walkFields, walk, walkAll}
+use Rattle.flattened.specs.Walk.{token, scalarAt, textAt, sizesAt, sizesFit, arrayAt, follow, repeat, walkFields, walk, walkAll}
 
 -- a walk went over s from a up to b, and its tokens, joined, are those bytes
 pub record Over (s : List ℕ) (a b : ℕ) (ts : List Token) : Type 0 where
@@ -58,10 +58,10 @@ module _ (s : List ℕ) where
   goes-follow a o next first then =
       holds-andThen first (λ b ts x. holds-andThen (then b (x .within)) (λ c us y. found (over-both a b c ts us x y)))
 
-  goes-scalar : (c at : ℕ) (fits : Bool) (number : ℕ) → Goes s at (scalarAt c s at fits number)
+  goes-scalar : (c at : ℕ) (fits : Bool) → Goes s at (scalarAt c s at fits)
   unfolding scalarAt
-  goes-scalar c at fits number =
-      holds-require _ 21 at (λ e. holds-require fits number at (λ _. found (over-one _ at (at + widthOf c) (omega arith) (leb-true _ _ e))))
+  goes-scalar c at fits =
+      holds-require _ 21 at (λ e. holds-require fits 23 at (λ _. found (over-one _ at (at + widthOf c) (omega arith) (leb-true _ _ e))))
 
   goes-text : (o : Order) (at : ℕ) → Goes s at (textAt o s at)
   unfolding textAt
@@ -93,13 +93,13 @@ module _ (s : List ℕ) where
       (λ last ts x. found (over-both at next last (token _ at next ∷ []) ts (over-one _ at next (h .0) (h .1)) x)))
 
   mutual
-    unfolding walk walkFields plainAt
+    unfolding walk walkFields
 
     -- the walk of a type
     pub goes-walk : (o : Order) (t : Tree) (at : ℕ) → at ≤ length s → Goes s at (walk o t s at)
-    goes-walk o (node c empty f m) at h = goes-scalar c at _ 24
-    goes-walk o (node c (items xs) f m) at h = goes-scalar c at _ 23
-    goes-walk o (node c (pairs ps) f m) at h = goes-scalar c at _ 24
+    goes-walk o (node c empty f m) at h = goes-scalar c at true
+    goes-walk o (node c (items xs) f m) at h = goes-scalar c at _
+    goes-walk o (node c (pairs ps) f m) at h = goes-scalar c at true
     goes-walk o (node c text f m) at h = goes-text o at
     goes-walk o (node c (dimensions k) f m) at h = goes-array o k (λ p. walkAll o f s p) (λ p g. goes-walkAll o f p g) c at
     goes-walk o (node c (members k) f m) at h = goes-walkAll o f at h

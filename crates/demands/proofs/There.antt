@@ -36,7 +36,7 @@ use Rattle.byteorder.specs.Reversal.{numberCount, numberWidth}
 use Rattle.values.specs.Pieces.{piecesAt}
 use Rattle.values.proofs.Places.{Here, here-whole, here-first, here-second}
 use Rattle.values.proofs.Numbers.{number-read, length-inOrder}
-use Rattle.values.proofs.Scalars.{lone-width, scalar-bound}
+use Rattle.values.proofs.Scalars.{lone-width}
 use Rattle.values.proofs.Complete.{value-walks, sizes-walk, sizes-product}
 use Rattle.values.proofs.Accepted.{data-walked}
 use Rattle.demands.proofs.Accepted.{Described}
@@ -146,7 +146,7 @@ module _ (s : List ℕ) where
   unfolding loneOf inOrder AllBelow numberAt
   scalar-value c at [] g h = valueless c _ (λ n. omega (arith, g .many, number-count n))
   scalar-value c at (n ∷ []) g h =
-      let wide : be s at (numberWidth c) ≡ n = number-read big s at (numberWidth c) n (scalar-bound c (n ∷ []) g .0) (here-first s at _ [] h) in
+      let wide : be s at (numberWidth c) ≡ n = number-read big s at (numberWidth c) n (g .below .0) (here-first s at _ [] h) in
       ap (valueOf c) (ap (λ (w : ℕ). be s at w) (sym (lone-width c (g .many))) ∙ wide)
   scalar-value c at (n ∷ k ∷ ns) g h = valueless c _ (λ n. omega (arith, g .many, number-count n))
 

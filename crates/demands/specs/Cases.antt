@@ -19,7 +19,7 @@ use Rattle.canonical.specs.Equality.{sameList, sameName, itemsOf, pairsOf, same
 use Rattle.canonical.specs.declared.Compared.{Compared}
 use Rattle.descriptor.specs.Width.{widthOf}
 use Rattle.flattened.specs.Order.{numberAt}
-use Rattle.flattened.specs.Walk.{scalarAt, plainAt, textAt, sizesAt, sizesFit, product, arrayAt, repeat, walkFields, walk, walkAll, walked}
+use Rattle.flattened.specs.Walk.{scalarAt, textAt, sizesAt, sizesFit, product, arrayAt, repeat, walkFields, walk, walkAll, walked}
 use Rattle.flattened.specs.Answers.{dataCheck}
 use Rattle.byteorder.specs.Reversal.{reverseEach, numberCount, numberWidth, reverseToken, reversed, turned, toLittleEndian}
 use Rattle.access.specs.Path.{memberAt, stepAt, spotAt}
@@ -113,5 +113,5 @@ pub cases : (descriptorCheck p1 ≡ withRows 1 (row 0x03 0 4 1 0 0 0 ∷ []))
     -- P12: with reader code 0003, 44 at 0; with name 026E 6F00, 42 at 0
     × (resolved rig (reader 0x03 0x69 0x64) sent (room 6) ≡ unwritten (room 6) 44 2 0)
     × (resolved rig (reader 0x07 0x6E 0x6F) sent (room 6) ≡ unwritten (room 6) 42 2 0)
-unfolding be beBytes signed kindOf childCount countOf itemsSize fieldsSize nameSize treeSize forestSize rowCount forestRows headerAt countAt runAt itemAt itemsAt pairsAt fieldsRead judged contentsAt fillAt filledAt fieldsAt membersAt nameAt nodeAt treeAt checked namePlace nameLength rowOf rowsOf forestRowsOf tableOf descriptorCheck writtenTo sameList sameName itemsOf pairsOf sameTree sameForest comparison widthOf numberAt scalarAt plainAt textAt sizesAt sizesFit product arrayAt repeat walkFields walk walkAll walked dataCheck reverseEach numberCount numberWidth reverseToken reversed turned memberAt stepAt spotAt ofSingle ofDouble valueOf isValue numberOf readValue membersFrom writerFields isAmong readerNames readerFields matches namesakes searched searchNumber memberFound memberBytes joinedBytes recordBytes resolved
+unfolding be beBytes signed kindOf childCount countOf itemsSize fieldsSize nameSize treeSize forestSize rowCount forestRows headerAt countAt runAt itemAt itemsAt pairsAt fieldsRead judged contentsAt fillAt filledAt fieldsAt membersAt nameAt nodeAt treeAt checked namePlace nameLength rowOf rowsOf forestRowsOf tableOf descriptorCheck writtenTo sameList sameName itemsOf pairsOf sameTree sameForest comparison widthOf numberAt scalarAt textAt sizesAt sizesFit product arrayAt repeat walkFields walk walkAll walked dataCheck reverseEach numberCount numberWidth reverseToken reversed turned memberAt stepAt spotAt ofSingle ofDouble valueOf isValue numberOf readValue membersFrom writerFields isAmong readerNames readerFields matches namesakes searched searchNumber memberFound memberBytes joinedBytes recordBytes resolved
 cases = (refl, refl, refl, refl, refl, refl, refl, refl, refl, refl, refl, refl, refl, refl, refl, refl, refl, refl, refl, refl)

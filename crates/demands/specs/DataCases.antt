@@ -18,7 +18,7 @@ use Rattle.descriptor.specs.Output.{Written, unwritten, writtenTo}
 use Rattle.descriptor.specs.Width.{widthOf}
 use Rattle.descriptor.specs.declared.answer.Answer.{Answer}
 use Rattle.flattened.specs.Order.{numberAt}
-use Rattle.flattened.specs.Walk.{scalarAt, plainAt, textAt, sizesAt, sizesFit, product, arrayAt, repeat, walkFields, walk, walkAll, walked}
+use Rattle.flattened.specs.Walk.{scalarAt, textAt, sizesAt, sizesFit, product, arrayAt, repeat, walkFields, walk, walkAll, walked}
 use Rattle.flattened.specs.Answers.{dataCheck}
 use Rattle.byteorder.specs.Reversal.{reverseEach, numberCount, numberWidth, reverseToken, reversed, turned, toLittleEndian, fromLittleEndian}
 use Rattle.access.specs.Path.{memberAt, stepAt, spotAt, noPart, partOf, located}
@@ -27,7 +27,7 @@ use Rattle.access.specs.declared.part.Part.{Part}
 use Rattle.demands.specs.Cases.{p1, p5, p6, room}
 
 -- 0004 00cc
-abbrev scalar : ℕ → List ℕ
+abbrev pub scalar : ℕ → List ℕ
 scalar code = 0x00 ∷ 0x04 ∷ 0x00 ∷ code ∷ []
 
 -- 0008 0030 FFFF FFFF: a string
@@ -41,6 +41,10 @@ note = 0x00 ∷ 0x12 ∷ 0x00 ∷ 0x50 ∷ 0x00 ∷ 0x02 ∷ (scalar 0x02 ++ wor
 -- 000E 0040 0001 FFFF FFFF 0004 0021: Booleans
 abbrev flags : List ℕ
 flags = 0x00 ∷ 0x0E ∷ 0x00 ∷ 0x40 ∷ 0x00 ∷ 0x01 ∷ (replicate 4 0xFF ++ scalar 0x21)
+
+-- 000A 001A 0001 0002 0001: a double in a unit
+abbrev measure : List ℕ
+measure = 0x00 ∷ 0x0A ∷ 0x00 ∷ 0x1A ∷ 0x00 ∷ 0x01 ∷ 0x00 ∷ 0x02 ∷ 0x00 ∷ 0x01 ∷ []
 
 -- 0012 0040 0002 FFFF FFFF FFFF FFFF 0004 0003: two dimensions of 32-bit numbers
 abbrev plane : List ℕ
@@ -65,8 +69,8 @@ few n = 0x00 ∷ 0x00 ∷ 0x00 ∷ n ∷ []
 abbrev at : ℕ → ℕ → Answer
 at number place = refusal number 3 place
 
--- 21 "data ends inside a piece", 22 "a length or size of 2^31 or more", 23 and 24 "enumeration too high; Boolean byte over 1", each at "piece
--- start"; 25, "bytes left over", at "first of them"; 20, "data over 65,536 bytes", at 0
+-- 21 "data ends inside a piece", 22 "a length or size of 2^31 or more", 23 "enumeration too high", each at "piece start"; 25, "bytes left over", at
+-- "first of them"; 20, "data over 65,536 bytes", at 0. Document 02, CR 2: "24 is no longer given".
 pub data-places : (dataCheck p5 (0xFF ∷ 0xFE ∷ 0x00 ∷ 0x00 ∷ 0x00 ∷ []) ≡ at 21 2)
     × (dataCheck p5 (0xFF ∷ 0xFE ∷ []) ≡ at 21 2)
     × (dataCheck words (0x00 ∷ 0x00 ∷ 0x00 ∷ []) ≡ at 21 0)
@@ -78,27 +82,30 @@ pub data-places : (dataCheck p5 (0xFF ∷ 0xFE ∷ 0x00 ∷ 0x00 ∷ 0x00 ∷ []
     × (dataCheck p6 (2 ∷ []) ≡ accepted 1)
     × (dataCheck p6 (3 ∷ []) ≡ at 23 0)
     × (dataCheck (scalar 0x21) (1 ∷ []) ≡ accepted 1)
-    × (dataCheck (scalar 0x21) (2 ∷ []) ≡ at 24 0)
-    × (dataCheck flags (few 3 ++ (0 ∷ 1 ∷ 2 ∷ [])) ≡ at 24 6)
+    × (dataCheck (scalar 0x21) (2 ∷ []) ≡ accepted 1)
+    × (dataCheck flags (few 3 ++ (0 ∷ 1 ∷ 0xFF ∷ [])) ≡ accepted 4)
+    -- a number with a unit: any bytes, as many as its code has
+    × (dataCheck measure (replicate 8 0xFF) ≡ accepted 1)
+    × (dataCheck measure (replicate 7 0xFF) ≡ at 21 0)
     × (dataCheck p1 (replicate 5 0) ≡ at 25 4)
     × (dataCheck flags (few 1 ++ (1 ∷ 0 ∷ [])) ≡ at 25 5)
     × (dataCheck p1 (replicate 65537 0) ≡ at 20 0)
-unfolding be beBytes le leBytes kindOf childCount countOf itemsSize fieldsSize nameSize treeSize forestSize rowCount forestRows headerAt countAt runAt itemAt itemsAt pairsAt fieldsRead judged contentsAt fillAt filledAt fieldsAt membersAt nameAt nodeAt treeAt checked widthOf numberAt scalarAt plainAt textAt sizesAt sizesFit product arrayAt repeat walkFields walk walkAll walked dataCheck
-data-places = (refl, refl, refl, refl, refl, refl, refl, refl, refl, refl, refl, refl, refl, refl, refl)
+unfolding be beBytes le leBytes kindOf childCount countOf itemsSize fieldsSize nameSize treeSize forestSize rowCount forestRows headerAt countAt runAt itemAt itemsAt pairsAt fieldsRead judged contentsAt fillAt filledAt fieldsAt membersAt nameAt nodeAt treeAt checked widthOf numberAt scalarAt textAt sizesAt sizesFit product arrayAt repeat walkFields walk walkAll walked dataCheck
+data-places = (refl, refl, refl, refl, refl, refl, refl, refl, refl, refl, refl, refl, refl, refl, refl, refl, refl)
 
--- "In data: 20, then piece by piece 21, 22, 23, 24, then 25; all size words of an array, or the length word of a string, must be present (21)
+-- "In data: 20, then piece by piece 21, 22, 23, .., then 25; all size words of an array, or the length word of a string, must be present (21)
 -- before 22 is judged"
 pub data-order : (dataCheck [] [] ≡ refusal 2 1 0)
     × (dataCheck plane over ≡ at 21 0)
     × (dataCheck plane (over ++ few 0) ≡ at 22 0)
     × (dataCheck plane (few 0 ++ over) ≡ at 22 0)
     × (dataCheck plane (most ++ few 0) ≡ accepted 1)
-    × (dataCheck flags (few 3 ++ (0 ∷ 2 ∷ [])) ≡ at 24 5)
-    × (dataCheck (scalar 0x21) (2 ∷ 0 ∷ []) ≡ at 24 0)
+    × (dataCheck flags (few 3 ++ (0 ∷ 2 ∷ [])) ≡ at 21 6)
+    × (dataCheck (scalar 0x21) (2 ∷ 0 ∷ []) ≡ at 25 1)
     -- four sizes of 7FFF FFFF: the first element is refused, or the one that is cut
     × (dataCheck items (most ++ (most ++ (most ++ (most ++ (3 ∷ []))))) ≡ at 23 16)
     × (dataCheck items (most ++ (most ++ (most ++ (most ++ (2 ∷ []))))) ≡ at 21 17)
-unfolding be beBytes le leBytes kindOf childCount countOf itemsSize fieldsSize nameSize treeSize forestSize rowCount forestRows headerAt countAt runAt itemAt itemsAt pairsAt fieldsRead judged contentsAt fillAt filledAt fieldsAt membersAt nameAt nodeAt treeAt checked widthOf numberAt scalarAt plainAt textAt sizesAt sizesFit product arrayAt repeat walkFields walk walkAll walked dataCheck
+unfolding be beBytes le leBytes kindOf childCount countOf itemsSize fieldsSize nameSize treeSize forestSize rowCount forestRows headerAt countAt runAt itemAt itemsAt pairsAt fieldsRead judged contentsAt fillAt filledAt fieldsAt membersAt nameAt nodeAt treeAt checked widthOf numberAt scalarAt textAt sizesAt sizesFit product arrayAt repeat walkFields walk walkAll walked dataCheck
 data-order = (refl, refl, refl, refl, refl, refl, refl, refl, refl)
 
 -- a part by where it starts and its length
@@ -129,7 +136,7 @@ pub parts : (located p5 two [] ≡ part 0 6)
     -- "Between inputs: rig, reader, data, path"
     × (located [] two (9 ∷ []) ≡ noPart 2 1 0)
     × (located p5 (0xFF ∷ 0xFE ∷ []) (9 ∷ []) ≡ noPart 21 3 2)
-unfolding be beBytes le leBytes kindOf childCount countOf itemsSize fieldsSize nameSize treeSize forestSize rowCount forestRows headerAt countAt runAt itemAt itemsAt pairsAt fieldsRead judged contentsAt fillAt filledAt fieldsAt membersAt nameAt nodeAt treeAt checked widthOf numberAt scalarAt plainAt textAt sizesAt sizesFit product arrayAt repeat walkFields walk walkAll walked memberAt stepAt spotAt partOf located
+unfolding be beBytes le leBytes kindOf childCount countOf itemsSize fieldsSize nameSize treeSize forestSize rowCount forestRows headerAt countAt runAt itemAt itemsAt pairsAt fieldsRead judged contentsAt fillAt filledAt fieldsAt membersAt nameAt nodeAt treeAt checked widthOf numberAt scalarAt textAt sizesAt sizesFit product arrayAt repeat walkFields walk walkAll walked memberAt stepAt spotAt partOf located
 parts = (refl, refl, refl, refl, refl, refl, refl, refl, refl, refl, refl, refl)
 
 -- 31, "no single number there (string, array, cluster, extended, complex)", at 0
@@ -141,7 +148,7 @@ pub no-values : (readValue words (few 0) [] ≡ noValue 31 4 0)
     × (readValue note noted (1 ∷ []) ≡ noValue 31 4 0)
     × (readValue note noted (1 ∷ 0 ∷ []) ≡ noValue 30 4 1)
     × (readValue p5 (0xFF ∷ 0xFE ∷ []) (9 ∷ []) ≡ noValue 21 3 2)
-unfolding be beBytes le leBytes signed singleOf doubleOf nanBits kindOf childCount countOf itemsSize fieldsSize nameSize treeSize forestSize rowCount forestRows headerAt countAt runAt itemAt itemsAt pairsAt fieldsRead judged contentsAt fillAt filledAt fieldsAt membersAt nameAt nodeAt treeAt checked widthOf numberAt scalarAt plainAt textAt sizesAt sizesFit product arrayAt repeat walkFields walk walkAll walked memberAt stepAt spotAt ofSingle ofDouble valueOf isValue numberOf readValue
+unfolding be beBytes le leBytes signed singleOf doubleOf nanBits kindOf childCount countOf itemsSize fieldsSize nameSize treeSize forestSize rowCount forestRows headerAt countAt runAt itemAt itemsAt pairsAt fieldsRead judged contentsAt fillAt filledAt fieldsAt membersAt nameAt nodeAt treeAt checked widthOf numberAt scalarAt textAt sizesAt sizesFit product arrayAt repeat walkFields walk walkAll walked memberAt stepAt spotAt ofSingle ofDouble valueOf isValue numberOf readValue
 no-values = (refl, refl, refl, refl, refl, refl, refl, refl)
 
 -- the kinds of the values of n codes in a row, from `low` on, whose bytes are all zero
@@ -176,9 +183,10 @@ pub turned-data : (toLittleEndian (scalar 0x0C) (few 1 ++ few 2) (room 9) ≡ wr
     × (toLittleEndian note (0x01 ∷ 0x02 ∷ (few 2 ++ (0x41 ∷ 0x42 ∷ []))) (room 8) ≡ wrote 8 (0x02 ∷ 0x01 ∷ 0x02 ∷ 0 ∷ 0 ∷ 0 ∷ 0x41 ∷ 0x42 ∷ []))
     × (fromLittleEndian note (0x02 ∷ 0x01 ∷ 0x02 ∷ 0 ∷ 0 ∷ 0 ∷ 0x41 ∷ 0x42 ∷ []) (room 8) ≡ wrote 8 (0x01 ∷ 0x02 ∷ (few 2 ++ (0x41 ∷ 0x42 ∷ []))))
     × (toLittleEndian flags (few 2 ++ (0 ∷ 1 ∷ [])) (room 6) ≡ wrote 6 (0x02 ∷ 0 ∷ 0 ∷ 0 ∷ 0 ∷ 1 ∷ []))
+    × (toLittleEndian measure (1 ∷ 2 ∷ 3 ∷ 4 ∷ 5 ∷ 6 ∷ 7 ∷ 8 ∷ []) (room 8) ≡ wrote 8 (8 ∷ 7 ∷ 6 ∷ 5 ∷ 4 ∷ 3 ∷ 2 ∷ 1 ∷ []))
     × (toLittleEndian p5 two (room 5) ≡ unwritten (room 5) 50 4 6)
     × (toLittleEndian p5 (0xFF ∷ 0xFE ∷ []) [] ≡ unwritten [] 21 3 2)
     × (fromLittleEndian words (0x00 ∷ 0x00 ∷ 0x00 ∷ 0x80 ∷ []) (room 4) ≡ unwritten (room 4) 22 3 0)
-    × (fromLittleEndian flags (0x01 ∷ 0 ∷ 0 ∷ 0 ∷ 2 ∷ []) (room 5) ≡ unwritten (room 5) 24 3 4)
-unfolding be beBytes le leBytes kindOf childCount countOf itemsSize fieldsSize nameSize treeSize forestSize rowCount forestRows headerAt countAt runAt itemAt itemsAt pairsAt fieldsRead judged contentsAt fillAt filledAt fieldsAt membersAt nameAt nodeAt treeAt checked widthOf numberAt scalarAt plainAt textAt sizesAt sizesFit product arrayAt repeat walkFields walk walkAll walked writtenTo reverseEach numberCount numberWidth reverseToken reversed turned
-turned-data = (refl, refl, refl, refl, refl, refl, refl, refl)
+    × (fromLittleEndian flags (0x01 ∷ 0 ∷ 0 ∷ 0 ∷ 2 ∷ []) (room 5) ≡ wrote 5 (0 ∷ 0 ∷ 0 ∷ 0x01 ∷ 2 ∷ []))
+unfolding be beBytes le leBytes kindOf childCount countOf itemsSize fieldsSize nameSize treeSize forestSize rowCount forestRows headerAt countAt runAt itemAt itemsAt pairsAt fieldsRead judged contentsAt fillAt filledAt fieldsAt membersAt nameAt nodeAt treeAt checked widthOf numberAt scalarAt textAt sizesAt sizesFit product arrayAt repeat walkFields walk walkAll walked writtenTo reverseEach numberCount numberWidth reverseToken reversed turned
+turned-data = (refl, refl, refl, refl, refl, refl, refl, refl, refl)

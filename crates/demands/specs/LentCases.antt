@@ -14,7 +14,7 @@ use Rattle.descriptor.specs.Table.{namePlace, nameLength, rowOf, rowsOf, forest
 use Rattle.descriptor.specs.Answers.{descriptorCheck}
 use Rattle.descriptor.specs.Width.{widthOf}
 use Rattle.flattened.specs.Order.{numberAt}
-use Rattle.flattened.specs.Walk.{scalarAt, plainAt, textAt, sizesAt, sizesFit, product, arrayAt, repeat, walkFields, walk, walkAll, walked}
+use Rattle.flattened.specs.Walk.{scalarAt, textAt, sizesAt, sizesFit, product, arrayAt, repeat, walkFields, walk, walkAll, walked}
 use Rattle.flattened.specs.Answers.{dataCheck}
 use Rattle.layout.specs.Numbers.{answerNumbers, rowsNumbers, tableNumbers, truth}
 use Rattle.demands.specs.Cases.{rig}
@@ -34,5 +34,5 @@ pub lent-cases : (answerNumbers (descriptorCheck rig .answer) ≡ 0 ∷ 0 ∷ 3 
     × (answerNumbers (dataCheck rig (0x00 ∷ 0x19 ∷ 0x00 ∷ [])) ≡ 21 ∷ 3 ∷ 2 ∷ [])
     × (truth true ≡ 1)
     × (truth false ≡ 0)
-unfolding be kindOf childCount countOf itemsSize fieldsSize nameSize treeSize forestSize rowCount forestRows headerAt countAt runAt itemAt itemsAt pairsAt fieldsRead judged contentsAt fillAt filledAt fieldsAt membersAt nameAt nodeAt treeAt checked namePlace nameLength rowOf rowsOf forestRowsOf tableOf descriptorCheck widthOf numberAt scalarAt plainAt textAt sizesAt sizesFit product arrayAt repeat walkFields walk walkAll walked dataCheck answerNumbers rowsNumbers truth
+unfolding be kindOf childCount countOf itemsSize fieldsSize nameSize treeSize forestSize rowCount forestRows headerAt countAt runAt itemAt itemsAt pairsAt fieldsRead judged contentsAt fillAt filledAt fieldsAt membersAt nameAt nodeAt treeAt checked namePlace nameLength rowOf rowsOf forestRowsOf tableOf descriptorCheck widthOf numberAt scalarAt textAt sizesAt sizesFit product arrayAt repeat walkFields walk walkAll walked dataCheck answerNumbers rowsNumbers truth
 lent-cases = (refl, refl, refl, refl, refl, refl, refl)

@@ -4,3 +4,4 @@ pub mod RecordCases
 pub mod LentCases
 pub mod Refusals
 pub mod StampCases
+pub mod FlagCases

@@ -15,7 +15,7 @@ use Rattle.descriptor.specs.Width.{widthOf}
 use Rattle.canonical.specs.Equality.{sameList, sameName, itemsOf, pairsOf, sameTree, sameForest}
 use Rattle.canonical.specs.Normal.{normalForm}
 use Rattle.flattened.specs.Order.{numberAt}
-use Rattle.flattened.specs.Walk.{scalarAt, plainAt, textAt, sizesAt, sizesFit, product, arrayAt, repeat, walkFields, walk, walkAll, walked}
+use Rattle.flattened.specs.Walk.{scalarAt, textAt, sizesAt, sizesFit, product, arrayAt, repeat, walkFields, walk, walkAll, walked}
 use Rattle.resolution.specs.Record.{membersFrom, writerFields, isAmong, readerNames, readerFields, matches, namesakes, searched, searchNumber, memberFound, memberBytes, joinedBytes, recordBytes, resolved}
 use Rattle.demands.specs.Cases.{p1, p5, rig, sent, reader, room}
 use Rattle.demands.specs.DataCases.{few, wrote}
@@ -47,7 +47,7 @@ pub record-places : (resolved rig p1 sent (room 6) ≡ unwritten (room 6) 40 2 0
     × (resolved rig (both (id 0x07) other) sent (room 6) ≡ unwritten (room 6) 42 2 1)
     × (resolved rig (reader 0x07 0x69 0x64) sent (room 3) ≡ unwritten (room 3) 50 4 4)
     × (resolved rig (with (0x00 ∷ 0x06 ∷ 0x00 ∷ 0x02 ∷ 0x01 ∷ 0x74 ∷ [])) sent (room 7) ≡ wrote 6 (0 ∷ 0 ∷ 0 ∷ 9 ∷ 0 ∷ 0x19 ∷ 238 ∷ []))
-unfolding be beBytes kindOf childCount countOf itemsSize fieldsSize nameSize treeSize forestSize rowCount forestRows headerAt countAt runAt itemAt itemsAt pairsAt fieldsRead judged contentsAt fillAt filledAt fieldsAt membersAt nameAt nodeAt treeAt checked writtenTo sameList sameName itemsOf pairsOf sameTree sameForest widthOf numberAt scalarAt plainAt textAt sizesAt sizesFit product arrayAt repeat walkFields walk walkAll walked membersFrom writerFields isAmong readerNames readerFields matches namesakes searched searchNumber memberFound memberBytes joinedBytes recordBytes resolved
+unfolding be beBytes kindOf childCount countOf itemsSize fieldsSize nameSize treeSize forestSize rowCount forestRows headerAt countAt runAt itemAt itemsAt pairsAt fieldsRead judged contentsAt fillAt filledAt fieldsAt membersAt nameAt nodeAt treeAt checked writtenTo sameList sameName itemsOf pairsOf sameTree sameForest widthOf numberAt scalarAt textAt sizesAt sizesFit product arrayAt repeat walkFields walk walkAll walked membersFrom writerFields isAmong readerNames readerFields matches namesakes searched searchNumber memberFound memberBytes joinedBytes recordBytes resolved
 record-places = (refl, refl, refl, refl, refl, refl, refl, refl, refl)
 
 -- "Between inputs: rig, reader, data, path, then 40, 41, the reader's members in order, 50."
@@ -58,7 +58,7 @@ pub record-order : (resolved [] [] [] [] ≡ unwritten [] 2 1 0)
     × (resolved p1 (both other (id 0x03)) (few 9) [] ≡ unwritten [] 41 1 0)
     × (resolved rig (both other (id 0x03)) sent [] ≡ unwritten [] 42 2 0)
     × (resolved rig (both (id 0x03) other) sent [] ≡ unwritten [] 44 2 0)
-unfolding be beBytes kindOf childCount countOf itemsSize fieldsSize nameSize treeSize forestSize rowCount forestRows headerAt countAt runAt itemAt itemsAt pairsAt fieldsRead judged contentsAt fillAt filledAt fieldsAt membersAt nameAt nodeAt treeAt checked writtenTo sameList sameName itemsOf pairsOf sameTree sameForest widthOf numberAt scalarAt plainAt textAt sizesAt sizesFit product arrayAt repeat walkFields walk walkAll walked membersFrom writerFields isAmong readerNames readerFields matches namesakes searched searchNumber memberFound memberBytes joinedBytes recordBytes resolved
+unfolding be beBytes kindOf childCount countOf itemsSize fieldsSize nameSize treeSize forestSize rowCount forestRows headerAt countAt runAt itemAt itemsAt pairsAt fieldsRead judged contentsAt fillAt filledAt fieldsAt membersAt nameAt nodeAt treeAt checked writtenTo sameList sameName itemsOf pairsOf sameTree sameForest widthOf numberAt scalarAt textAt sizesAt sizesFit product arrayAt repeat walkFields walk walkAll walked membersFrom writerFields isAmong readerNames readerFields matches namesakes searched searchNumber memberFound memberBytes joinedBytes recordBytes resolved
 record-order = (refl, refl, refl, refl, refl, refl, refl)
 
 -- "the same descriptor with every reserved byte zero"; "On success, output beyond the length written keeps its bytes."

@@ -19,7 +19,7 @@ use Rattle.descriptor.specs.Output.{unwritten, writtenTo}
 use Rattle.descriptor.specs.Width.{widthOf}
 use Rattle.canonical.specs.Equality.{sameList, sameName, itemsOf, pairsOf, sameTree, sameForest, comparison}
 use Rattle.flattened.specs.Order.{numberAt}
-use Rattle.flattened.specs.Walk.{scalarAt, plainAt, textAt, sizesAt, sizesFit, product, arrayAt, repeat, walkFields, walk, walkAll, walked}
+use Rattle.flattened.specs.Walk.{scalarAt, textAt, sizesAt, sizesFit, product, arrayAt, repeat, walkFields, walk, walkAll, walked}
 use Rattle.flattened.specs.Answers.{dataCheck}
 use Rattle.byteorder.specs.Reversal.{reverseEach, numberCount, numberWidth, reverseToken, reversed, turned, toLittleEndian}
 use Rattle.access.specs.Path.{memberAt, stepAt, spotAt, noPart, partOf, located}
@@ -126,7 +126,7 @@ pub stamp-data : (dataCheck plainStamp sample ≡ accepted 4)
     × (dataCheck plainStamp (replicate 15 0) ≡ refusal 21 3 12)
     × (dataCheck plainStamp (replicate 17 0) ≡ refusal 25 3 16)
     × (dataCheck stamps (0x00 ∷ 0x00 ∷ 0x00 ∷ 0x02 ∷ (sample ++ sample)) ≡ accepted 9)
-unfolding dataCheck checked treeAt headerAt kindOf fieldsAt fieldsRead countAt runAt itemAt itemsAt pairsAt contentsAt judged filledAt fillAt membersAt nodeAt nameAt childCount countOf itemsSize fieldsSize nameSize treeSize forestSize rowCount forestRows isUnnamed areUnnamed isStampCluster isStampInside be walked walk walkAll walkFields plainAt scalarAt textAt arrayAt sizesAt sizesFit product repeat numberAt widthOf
+unfolding dataCheck checked treeAt headerAt kindOf fieldsAt fieldsRead countAt runAt itemAt itemsAt pairsAt contentsAt judged filledAt fillAt membersAt nodeAt nameAt childCount countOf itemsSize fieldsSize nameSize treeSize forestSize rowCount forestRows isUnnamed areUnnamed isStampCluster isStampInside be walked walk walkAll walkFields scalarAt textAt arrayAt sizesAt sizesFit product repeat numberAt widthOf
 stamp-data = (refl, refl, refl, refl)
 
 -- "Its one part, step 0, is that cluster"; no value at a stamp itself
@@ -137,13 +137,13 @@ pub stamp-parts : (located plainStamp sample (0 ∷ []) ≡ record { answer = ac
     × (readValue plainStamp sample (0 ∷ []) .answer ≡ refusal 31 4 0)
     × (readValue plainStamp sample (0 ∷ 1 ∷ []) .value ≡ Signed (negsuc 0))
     × (readValue plainStamp sample (0 ∷ 2 ∷ []) .value ≡ Unsigned 0x80000000)
-unfolding located readValue partOf spotAt stepAt memberAt numberOf valueOf isValue ofSingle ofDouble signed checked treeAt headerAt kindOf fieldsAt fieldsRead countAt runAt itemAt itemsAt pairsAt contentsAt judged filledAt fillAt membersAt nodeAt nameAt childCount countOf itemsSize fieldsSize nameSize treeSize forestSize rowCount forestRows isUnnamed areUnnamed isStampCluster isStampInside be walked walk walkAll walkFields plainAt scalarAt textAt arrayAt sizesAt sizesFit product repeat numberAt widthOf
+unfolding located readValue partOf spotAt stepAt memberAt numberOf valueOf isValue ofSingle ofDouble signed checked treeAt headerAt kindOf fieldsAt fieldsRead countAt runAt itemAt itemsAt pairsAt contentsAt judged filledAt fillAt membersAt nodeAt nameAt childCount countOf itemsSize fieldsSize nameSize treeSize forestSize rowCount forestRows isUnnamed areUnnamed isStampCluster isStampInside be walked walk walkAll walkFields scalarAt textAt arrayAt sizesAt sizesFit product repeat numberAt widthOf
 stamp-parts = (refl, refl, refl, refl, refl, refl, refl)
 
 -- the little-endian form: each of the four integers in the other order
 pub stamp-turned : toLittleEndian plainStamp (1 ∷ 2 ∷ 3 ∷ 4 ∷ 5 ∷ 6 ∷ 7 ∷ 8 ∷ 9 ∷ 10 ∷ 11 ∷ 12 ∷ 13 ∷ 14 ∷ 15 ∷ 16 ∷ []) (replicate 16 0)
     ≡ record { answer = accepted 16; out = 4 ∷ 3 ∷ 2 ∷ 1 ∷ 8 ∷ 7 ∷ 6 ∷ 5 ∷ 12 ∷ 11 ∷ 10 ∷ 9 ∷ 16 ∷ 15 ∷ 14 ∷ 13 ∷ [] }
-unfolding turned reversed reverseToken reverseEach numberCount numberWidth writtenTo checked treeAt headerAt kindOf fieldsAt fieldsRead countAt runAt itemAt itemsAt pairsAt contentsAt judged filledAt fillAt membersAt nodeAt nameAt childCount countOf itemsSize fieldsSize nameSize treeSize forestSize rowCount forestRows isUnnamed areUnnamed isStampCluster isStampInside be walked walk walkAll walkFields plainAt scalarAt textAt arrayAt sizesAt sizesFit product repeat numberAt widthOf
+unfolding turned reversed reverseToken reverseEach numberCount numberWidth writtenTo checked treeAt headerAt kindOf fieldsAt fieldsRead countAt runAt itemAt itemsAt pairsAt contentsAt judged filledAt fillAt membersAt nodeAt nameAt childCount countOf itemsSize fieldsSize nameSize treeSize forestSize rowCount forestRows isUnnamed areUnnamed isStampCluster isStampInside be walked walk walkAll walkFields scalarAt textAt arrayAt sizesAt sizesFit product repeat numberAt widthOf
 stamp-turned = refl
 
 -- the difference: accepted with seconds and fraction
@@ -174,5 +174,5 @@ differences = (refl, refl, refl, refl, refl, refl, refl, refl, refl, refl, refl,
 -- "A 54 as a record's top is no cluster": the rig's under a reader of an unsigned 32-bit "id", and the reader's
 pub stamp-tops : (resolved plainStamp (0x00 ∷ 0x0E ∷ 0x00 ∷ 0x50 ∷ 0x00 ∷ 0x01 ∷ 0x00 ∷ 0x08 ∷ 0x00 ∷ 0x07 ∷ 0x02 ∷ 0x69 ∷ 0x64 ∷ 0x00 ∷ []) sample (replicate 4 7) ≡ unwritten (replicate 4 7) 41 1 0)
     × (resolved p5 plainStamp (replicate 6 0) (replicate 4 7) ≡ unwritten (replicate 4 7) 40 2 0)
-unfolding resolved recordBytes membersFrom writerFields isAmong readerNames readerFields checked treeAt headerAt kindOf fieldsAt fieldsRead countAt runAt itemAt itemsAt pairsAt contentsAt judged filledAt fillAt membersAt nodeAt nameAt childCount countOf itemsSize fieldsSize nameSize treeSize forestSize rowCount forestRows isUnnamed areUnnamed isStampCluster isStampInside be walked walk walkAll walkFields plainAt scalarAt textAt arrayAt sizesAt sizesFit product repeat numberAt widthOf sameList sameName itemsOf pairsOf sameTree sameForest
+unfolding resolved recordBytes membersFrom writerFields isAmong readerNames readerFields checked treeAt headerAt kindOf fieldsAt fieldsRead countAt runAt itemAt itemsAt pairsAt contentsAt judged filledAt fillAt membersAt nodeAt nameAt childCount countOf itemsSize fieldsSize nameSize treeSize forestSize rowCount forestRows isUnnamed areUnnamed isStampCluster isStampInside be walked walk walkAll walkFields scalarAt textAt arrayAt sizesAt sizesFit product repeat numberAt widthOf sameList sameName itemsOf pairsOf sameTree sameForest
 stamp-tops = (refl, refl)

@@ -14,7 +14,7 @@ const FIRST_QUANTITY: u8 = 0x19;
 
 const LAST_QUANTITY: u8 = 0x1E;
 
-pub const BOOLEAN: u8 = 0x21;
+const BOOLEAN: u8 = 0x21;
 
 const STRING: u8 = 0x30;
 

@@ -44,7 +44,7 @@ neither false b e = (refl, e)
 keeps-any : (r : Rule) → judges r ≡ false → (v : ℕ) → keeps r v ≡ true
 unfolding judges keeps
 keeps-any Any e v = refl
-keeps-any (Below limit number) e v = cc
+keeps-any (Below limit) e v = cc
 
 -- where nothing is judged in two extents, nothing is in either
 neither-judged : (x y : Extent) → judgedIn (joint x y) ≡ false → (judgedIn x ≡ false) × (judgedIn y ≡ false)
@@ -63,9 +63,9 @@ module _ (o : Order) (s : List ℕ) where
 
     -- a type in which nothing is judged
     pub calm-kept : (t : Tree) → judgedIn (extentOf t) ≡ false → (at : ℕ) → Kept o s t at
-    calm-kept (node c empty f m) e at = keeps-any (ruleOf c empty) e _
-    calm-kept (node c (items xs) f m) e at = keeps-any (ruleOf c (items xs)) e _
-    calm-kept (node c (pairs ps) f m) e at = keeps-any (ruleOf c (pairs ps)) e _
+    calm-kept (node c empty f m) e at = keeps-any (ruleOf empty) e _
+    calm-kept (node c (items xs) f m) e at = keeps-any (ruleOf (items xs)) e _
+    calm-kept (node c (pairs ps) f m) e at = keeps-any (ruleOf (pairs ps)) e _
     calm-kept (node c text f m) e at = tt
     calm-kept (node c (dimensions k) f m) e at = tt
     calm-kept (node c (members k) f m) e at = calm-all f e at
@@ -112,7 +112,7 @@ ahead-joint (Around u v n i) (Around c e m j) p size h b t = record { bytes = om
 module _ (o : Order) (s : List ℕ) (at : ℕ) where
   -- a scalar whose number keeps its rule, a compound whose parts do, and any other type
   scalar-kept : (c : ℕ) (b : Fields) (f : Forest) (m : Name) → isMeasured (fieldsKind b) ≡ true
-      → keeps (ruleOf c b) (numberAt o s at (widthOf c)) ≡ true → Kept o s (node c b f m) at
+      → keeps (ruleOf b) (numberAt o s at (widthOf c)) ≡ true → Kept o s (node c b f m) at
   unfolding isMeasured fieldsKind Kept KeptFields
   scalar-kept c empty f m e h = h
   scalar-kept c (items xs) f m e h = h
@@ -147,10 +147,10 @@ module _ (o : Order) (s : List ℕ) (at : ℕ) where
     pub kept-number : 0 < widthOf (codeIn d p) → keeps (typeRule (typeAt d p)) (numberAt o s at (widthOf (codeIn d p))) ≡ true → Kept o s (typeAt d p) at
     kept-number some h =
         let made = it d p here in
-        let ruling : keeps (ruleOf (codeIn d p) (made .fields)) (numberAt o s at (widthOf (codeIn d p))) ≡ true =
+        let ruling : keeps (ruleOf (made .fields)) (numberAt o s at (widthOf (codeIn d p))) ≡ true =
         subst (λ (r : Rule). keeps r (numberAt o s at (widthOf (codeIn d p))) ≡ true) (ruled d p here) h in
-        let own : keeps (ruleOf (made .code) (made .fields)) (numberAt o s at (widthOf (made .code))) ≡ true =
-        subst (λ (c : ℕ). keeps (ruleOf c (made .fields)) (numberAt o s at (widthOf c)) ≡ true) (sym (made .coded)) ruling in
+        let own : keeps (ruleOf (made .fields)) (numberAt o s at (widthOf (made .code))) ≡ true =
+        subst (λ (c : ℕ). keeps (ruleOf (made .fields)) (numberAt o s at (widthOf c)) ≡ true) (sym (made .coded)) ruling in
         subst (λ (t : Tree). Kept o s t at) (sym (made .tree))
         (scalar-kept (made .code) (made .fields) (made .inner) (made .name) (is-measured d p here some) own)
 
@@ -185,10 +185,10 @@ module _ (o : Order) (s : List ℕ) (front whole : Extent) (at n : ℕ) (d : Lis
       kept-number o s _ d p here some
       (sym (ap (λ (r : Rule). keeps r (numberAt o s (beyond o s front (placeOf o s whole at i)) (widthOf (codeIn d p)))) e))
 
-  pub each-below : (limit number w : ℕ) → Below limit number ≡ typeRule (typeAt d p) → w ≡ widthOf (codeIn d p)
+  pub each-below : (limit w : ℕ) → Below limit ≡ typeRule (typeAt d p) → w ≡ widthOf (codeIn d p)
       → EachBelow o s front whole at w limit n → EachKept o s (typeAt d p) front whole at n
   unfolding keeps
-  each-below limit number w e wide low i l =
+  each-below limit w e wide low i l =
       let place = beyond o s front (placeOf o s whole at i) in
       let fits : numberAt o s place (widthOf (codeIn d p)) < limit = subst (λ (v : ℕ). numberAt o s place v < limit) wide (low i l) in
       kept-number o s place d p here some

@@ -194,7 +194,7 @@ fn scalar_column(
     let rule = rule_of(d, p);
     match rule {
         Rule::Any => n,
-        Rule::Below(limit, number) => column(front, whole, w, limit, n, s, at, o),
+        Rule::Below(limit) => column(front, whole, w, limit, n, s, at, o),
     }
 }
 

@@ -1,13 +1,10 @@
 -- The walk, the rule and the extent of a type by the kind of its code. Rests on the definitions, and on how a scalar is judged.
 use mathlib.Core.Path.{_≡_, refl, ap}
-use mathlib.Core.Bool.{Bool, true, false, cond}
+use mathlib.Core.Bool.{true}
 use mathlib.Core.List.{List}
-use mathlib.Core.Logic.{_⊎_, inl, inr}
 use Prim.Native.Nat.{ℕ}
 use native.Mathlib.Omega.{arith}
-use borrow.Author.Tests.{eqb-true}
-use lib.Dec.{eqb}
-use Rattle.descriptor.specs.Codes.{enumeration, string, array, kindOf, booleanCode}
+use Rattle.descriptor.specs.Codes.{Kind, enumeration, string, array}
 use Rattle.descriptor.specs.Tree.{Name, Fields, empty, items, pairs, text, dimensions, members, subtype, Tree, node, Forest, nil, cons, countOf}
 use Rattle.descriptor.specs.Width.{widthOf}
 use Rattle.descriptor.specs.inner.Steps.{isCompound}
@@ -58,7 +55,7 @@ is-dimensions subtype e = cc
 module _ (c : ℕ) (b : Fields) (f : Forest) (m : Name) where
   module _ (o : Order) (s : List ℕ) (at : ℕ) where
     -- the walk
-    pub walk-scalar : isMeasured (fieldsKind b) ≡ true → walk o (node c b f m) s at ≡ ruledAt o c s at (ruleOf c b)
+    pub walk-scalar : isMeasured (fieldsKind b) ≡ true → walk o (node c b f m) s at ≡ ruledAt o c s at (ruleOf b)
     unfolding walk
     walk-scalar e = scalar-ruled o c s at b (λ p. walkAll o f s p) (measured-scalar b e)
 
@@ -84,11 +81,11 @@ module _ (c : ℕ) (b : Fields) (f : Forest) (m : Name) where
         go subtype e = refl
 
   -- the extent
-  pub extent-scalar : isMeasured (fieldsKind b) ≡ true → extentOf (node c b f m) ≡ Fixed (widthOf c) 1 (judges (ruleOf c b))
+  pub extent-scalar : isMeasured (fieldsKind b) ≡ true → extentOf (node c b f m) ≡ Fixed (widthOf c) 1 (judges (ruleOf b))
   unfolding extentOf extentFields isMeasured fieldsKind
   extent-scalar e = go b e
     where
-      go : (b : Fields) → isMeasured (fieldsKind b) ≡ true → extentFields c b (extentAll f) ≡ Fixed (widthOf c) 1 (judges (ruleOf c b))
+      go : (b : Fields) → isMeasured (fieldsKind b) ≡ true → extentFields c b (extentAll f) ≡ Fixed (widthOf c) 1 (judges (ruleOf b))
       go empty e = refl
       go (items xs) e = refl
       go (pairs ps) e = refl
@@ -111,43 +108,36 @@ module _ (c : ℕ) (b : Fields) (f : Forest) (m : Name) where
       go subtype e = refl
 
 -- the rule
-pub rule-enumeration : (c : ℕ) (b : Fields) → fieldsKind b ≡ enumeration → ruleOf c b ≡ Below (countOf b) 23
+pub rule-enumeration : (b : Fields) → fieldsKind b ≡ enumeration → ruleOf b ≡ Below (countOf b)
 unfolding fieldsKind ruleOf countOf
-rule-enumeration c empty e = cc
-rule-enumeration c (items xs) e = refl
-rule-enumeration c (pairs ps) e = cc
-rule-enumeration c text e = cc
-rule-enumeration c (dimensions k) e = cc
-rule-enumeration c (members k) e = cc
-rule-enumeration c subtype e = cc
+rule-enumeration empty e = cc
+rule-enumeration (items xs) e = refl
+rule-enumeration (pairs ps) e = cc
+rule-enumeration text e = cc
+rule-enumeration (dimensions k) e = cc
+rule-enumeration (members k) e = cc
+rule-enumeration subtype e = cc
 
-pub rule-other : (c : ℕ) (b : Fields) → (fieldsKind b ≡ enumeration → ⊥) → ruleOf c b ≡ cond (eqb c booleanCode) (Below 2 24) Any
+pub rule-other : (b : Fields) → (fieldsKind b ≡ enumeration → ⊥) → ruleOf b ≡ Any
 unfolding fieldsKind ruleOf
-rule-other c empty h = refl
-rule-other c (items xs) h = absurd (h refl)
-rule-other c (pairs ps) h = refl
-rule-other c text h = refl
-rule-other c (dimensions k) h = refl
-rule-other c (members k) h = refl
-rule-other c subtype h = refl
+rule-other empty h = refl
+rule-other (items xs) h = absurd (h refl)
+rule-other (pairs ps) h = refl
+rule-other text h = refl
+rule-other (dimensions k) h = refl
+rule-other (members k) h = refl
+rule-other subtype h = refl
 
--- only an enumeration and a Boolean have a rule
-pub below-kind : (c : ℕ) (b : Fields) (limit number : ℕ) → fieldsKind b ≡ kindOf c → Below limit number ≡ ruleOf c b → (enumeration ≡ kindOf c) ⊎ (c ≡ booleanCode)
+-- only an enumeration has a rule
+pub below-kind : (k : Kind) (b : Fields) (limit : ℕ) → fieldsKind b ≡ k → Below limit ≡ ruleOf b → enumeration ≡ k
 unfolding fieldsKind ruleOf
-below-kind c b limit number k e = go b k e
-  where
-    flag : (t : Bool) → eqb c booleanCode ≡ t → Below limit number ≡ cond t (Below 2 24) Any → (enumeration ≡ kindOf c) ⊎ (c ≡ booleanCode)
-    flag true h e = inr (eqb-true c booleanCode h)
-    flag false h e = absurd (let z : _≡_ {A = ℕ} 0 1 = cc in omega arith)
-
-    go : (b : Fields) → fieldsKind b ≡ kindOf c → Below limit number ≡ ruleOf c b → (enumeration ≡ kindOf c) ⊎ (c ≡ booleanCode)
-    go empty k e = flag (eqb c booleanCode) refl e
-    go (items xs) k e = inl k
-    go (pairs ps) k e = flag (eqb c booleanCode) refl e
-    go text k e = flag (eqb c booleanCode) refl e
-    go (dimensions n) k e = flag (eqb c booleanCode) refl e
-    go (members n) k e = flag (eqb c booleanCode) refl e
-    go subtype k e = flag (eqb c booleanCode) refl e
+below-kind k empty limit h e = absurd (let z : _≡_ {A = ℕ} 0 1 = cc in omega arith)
+below-kind k (items xs) limit h e = h
+below-kind k (pairs ps) limit h e = absurd (let z : _≡_ {A = ℕ} 0 1 = cc in omega arith)
+below-kind k text limit h e = absurd (let z : _≡_ {A = ℕ} 0 1 = cc in omega arith)
+below-kind k (dimensions n) limit h e = absurd (let z : _≡_ {A = ℕ} 0 1 = cc in omega arith)
+below-kind k (members n) limit h e = absurd (let z : _≡_ {A = ℕ} 0 1 = cc in omega arith)
+below-kind k subtype limit h e = absurd (let z : _≡_ {A = ℕ} 0 1 = cc in omega arith)
 
 -- one type in a row
 pub walk-one : (o : Order) (t : Tree) (s : List ℕ) (at : ℕ) → walkAll o (cons t nil) s at ≡ walk o t s at

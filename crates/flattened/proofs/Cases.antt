@@ -1,13 +1,10 @@
 -- The walk, the rule and the extent of a type that stands in accepted bytes, by what the code reads of it. Rests on what such a type is made of.
 use mathlib.Core.Path.{_≡_, refl, sym, ap, _∙_}
-use mathlib.Core.Bool.{Bool, true, false, cond}
+use mathlib.Core.Bool.{Bool, true, false}
 use mathlib.Core.List.{List}
-use mathlib.Core.Logic.{_⊎_, ⊎-elim}
 use Prim.Native.Nat.{ℕ, _-_, _<_}
 use native.Mathlib.Omega.{arith}
-use borrow.Author.Tests.{eq-eqb, ne-eqb}
-use lib.Dec.{eqb}
-use Rattle.descriptor.specs.Codes.{Kind, plain, enumeration, quantity, string, array, cluster, stamp, unknown, kindOf, booleanCode}
+use Rattle.descriptor.specs.Codes.{Kind, plain, enumeration, quantity, string, array, cluster, stamp, unknown, kindOf}
 use Rattle.descriptor.specs.Header.{codeIn}
 use Rattle.descriptor.specs.Tree.{Name, Fields, empty, items, pairs, text, dimensions, members, subtype, Tree, node, Forest, countOf, childCount, insideAt}
 use Rattle.descriptor.specs.Width.{widthOf}
@@ -23,7 +20,7 @@ use Rattle.flattened.specs.inner.Extent.{ruleOf, typeRule, judges, exten
 use Rattle.flattened.specs.declared.extent.Rule.{Rule}
 use Rattle.flattened.specs.declared.extent.Rule.the-variants.{Any, Below}
 use Rattle.flattened.specs.declared.extent.Extent.the-variants.{Varies, Fixed, Around}
-use Rattle.flattened.proofs.Codes.{isMeasured, some-width, no-width, enumeration-narrow, boolean-narrow}
+use Rattle.flattened.proofs.Codes.{isMeasured, some-width, no-width, enumeration-narrow}
 use Rattle.flattened.proofs.Judged.{ruledAt}
 use Rattle.flattened.proofs.Arms.{walk-scalar, rule-enumeration, rule-other, below-kind, extent-scalar, extent-compound}
 use Rattle.flattened.proofs.Types.{TypeMade, type-made, type-inside}
@@ -101,25 +98,18 @@ module _ (d : List ℕ) (p : ℕ) (here : Stands d p) where
   it = type-made d p here
 
   -- the rule of the fields, by the code that was read
-  pub ruled : typeRule (typeAt d p) ≡ ruleOf (codeIn d p) (it .fields)
+  pub ruled : typeRule (typeAt d p) ≡ ruleOf (it .fields)
   unfolding typeRule
-  ruled = ap typeRule (it .tree) ∙ ap (λ (c : ℕ). ruleOf c (it .fields)) (it .coded)
+  ruled = ap typeRule (it .tree)
 
-  pub rule-items : enumeration ≡ kindOf (codeIn d p) → (i : Inside) → i ≡ insideOf d p → Below (i .count) 23 ≡ typeRule (typeAt d p)
+  pub rule-items : enumeration ≡ kindOf (codeIn d p) → (i : Inside) → i ≡ insideOf d p → Below (i .count) ≡ typeRule (typeAt d p)
   rule-items k i e =
-      ap (λ (x : Inside). Below (x .count) 23) (e ∙ it .inside)
-      ∙ sym (rule-enumeration (codeIn d p) (it .fields) (it .kind ∙ sym k))
+      ap (λ (x : Inside). Below (x .count)) (e ∙ it .inside)
+      ∙ sym (rule-enumeration (it .fields) (it .kind ∙ sym k))
       ∙ sym ruled
 
-  module _ (other : enumeration ≡ kindOf (codeIn d p) → ⊥) where
-    plainly : ruleOf (codeIn d p) (it .fields) ≡ cond (eqb (codeIn d p) booleanCode) (Below 2 24) Any
-    plainly = rule-other (codeIn d p) (it .fields) (λ e. other (sym e ∙ it .kind))
-
-    pub rule-flag : codeIn d p ≡ booleanCode → Below 2 24 ≡ typeRule (typeAt d p)
-    rule-flag e = sym (ruled ∙ plainly ∙ simp (eq-eqb (codeIn d p) booleanCode e))
-
-    pub rule-any : (codeIn d p ≡ booleanCode → ⊥) → Any ≡ typeRule (typeAt d p)
-    rule-any h = sym (ruled ∙ plainly ∙ simp (ne-eqb (codeIn d p) booleanCode h))
+  pub rule-any : (enumeration ≡ kindOf (codeIn d p) → ⊥) → Any ≡ typeRule (typeAt d p)
+  rule-any other = sym (ruled ∙ rule-other (it .fields) (λ e. other (sym e ∙ it .kind)))
 
   -- a code that has a width is a scalar's
   pub is-measured : 0 < widthOf (codeIn d p) → isMeasured (fieldsKind (it .fields)) ≡ true
@@ -132,7 +122,7 @@ module _ (d : List ℕ) (p : ℕ) (here : Stands d p) where
   pub extent-number : 0 < widthOf (codeIn d p) → Fixed (widthOf (codeIn d p)) 1 (judges (typeRule (typeAt d p))) ≡ extentOf (typeAt d p)
   extent-number h =
       ap (λ (r : Rule). Fixed (widthOf (codeIn d p)) 1 (judges r)) ruled
-      ∙ ap (λ (c : ℕ). Fixed (widthOf c) 1 (judges (ruleOf c (it .fields)))) (sym (it .coded))
+      ∙ ap (λ (c : ℕ). Fixed (widthOf c) 1 (judges (ruleOf (it .fields)))) (sym (it .coded))
       ∙ sym (ap extentOf (it .tree) ∙ extent-scalar (it .code) (it .fields) (it .inner) (it .name) (is-measured h))
 
   -- the walk of a scalar, by its rule
@@ -141,16 +131,12 @@ module _ (d : List ℕ) (p : ℕ) (here : Stands d p) where
   walk-number h o s at =
       ap (λ (t : Tree). walk o t s at) (it .tree)
       ∙ walk-scalar (it .code) (it .fields) (it .inner) (it .name) o s at (is-measured h)
-      ∙ ap (λ (c : ℕ). ruledAt o c s at (ruleOf c (it .fields))) (it .coded)
+      ∙ ap (λ (c : ℕ). ruledAt o c s at (ruleOf (it .fields))) (it .coded)
       ∙ ap (λ (r : Rule). ruledAt o (codeIn d p) s at r) (sym ruled)
 
   -- a type that has a rule is of one, two or four bytes
-  module _ (limit number : ℕ) (rule : Below limit number ≡ typeRule (typeAt d p)) where
-    which : (enumeration ≡ kindOf (codeIn d p)) ⊎ (codeIn d p ≡ booleanCode)
-    which = below-kind (codeIn d p) (it .fields) limit number (it .kind) (rule ∙ ruled)
-
-    pub rule-narrow : Narrow (widthOf (codeIn d p))
-    rule-narrow = ⊎-elim (λ e. enumeration-narrow (codeIn d p) (sym e)) (λ e. boolean-narrow (codeIn d p) e) which
+  pub rule-narrow : (limit : ℕ) → Below limit ≡ typeRule (typeAt d p) → Narrow (widthOf (codeIn d p))
+  rule-narrow limit rule = enumeration-narrow (codeIn d p) (sym (below-kind (kindOf (codeIn d p)) (it .fields) limit (it .kind) (rule ∙ ruled)))
 
   -- a code without a width is none's
   pub not-measured : widthOf (codeIn d p) ≡ 0 → isMeasured (fieldsKind (it .fields)) ≡ false

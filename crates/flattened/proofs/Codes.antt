@@ -53,11 +53,11 @@ same-is true false e = sym e
 same-is false true e = e
 same-is false false e = refl
 
--- exactly the codes of such kinds have a width, of at most 32 bytes; an enumeration or a Boolean has one, two or four
+-- exactly the codes of such kinds have a width, of at most 32 bytes; an enumeration has one, two or four
 test : ℕ → Bool
 test c =
     same (isMeasured (kindOf c)) (not (eqb (widthOf c) 0))
-    && (leb (widthOf c) 32 && (not (isEnumeration (kindOf c) || eqb c 33) || (eqb (widthOf c) 1 || (eqb (widthOf c) 2 || eqb (widthOf c) 4))))
+    && (leb (widthOf c) 32 && (not (isEnumeration (kindOf c)) || (eqb (widthOf c) 1 || (eqb (widthOf c) 2 || eqb (widthOf c) 4))))
 
 all-pass : passes test 34 ≡ true
 unfolding passes test same widthOf kindOf isMeasured
@@ -67,7 +67,7 @@ all-pass = refl
 record Parts (c : ℕ) : Type 0 where
   width : isMeasured (kindOf c) ≡ not (eqb (widthOf c) 0)
   most : widthOf c ≤ 32
-  narrow : (not (isEnumeration (kindOf c) || eqb c 33) || (eqb (widthOf c) 1 || (eqb (widthOf c) 2 || eqb (widthOf c) 4))) ≡ true
+  narrow : (not (isEnumeration (kindOf c)) || (eqb (widthOf c) 1 || (eqb (widthOf c) 2 || eqb (widthOf c) 4))) ≡ true
 
 in-table : (c : ℕ) → c < 34 → Parts c
 unfolding test
@@ -103,7 +103,7 @@ module _ (c : ℕ) (h : 34 ≤ c) where
       record {
         width = ap isMeasured past-kind ∙ kinds .0 ∙ sym (ap not (eq-eqb (widthOf c) 0 none));
         most = omega arith;
-        narrow = simp (plainly, ne-eqb c 33 other);
+        narrow = simp plainly;
       }
 
 parts : (c : ℕ) → Parts c
@@ -136,15 +136,6 @@ follows : (a b : Bool) → (not a || b) ≡ true → a ≡ true → b ≡ true
 follows true b e h = e
 follows false b e h = cc
 
--- an enumeration's and a Boolean's number is of one, two or four bytes
+-- an enumeration's number is of one, two or four bytes
 pub enumeration-narrow : (c : ℕ) → kindOf c ≡ enumeration → Narrow (widthOf c)
-enumeration-narrow c e =
-    let is : (isEnumeration (kindOf c) || eqb c 33) ≡ true = simp e in
-    one-of (widthOf c) (follows _ _ (parts c .narrow) is)
-
-pub boolean-narrow : (c : ℕ) → c ≡ 33 → Narrow (widthOf c)
-boolean-narrow c e = one-of (widthOf c) (follows _ _ (parts c .narrow) (either (isEnumeration (kindOf c)) (eq-eqb c 33 e)))
-  where
-    either : (a : Bool) {b : Bool} → b ≡ true → (a || b) ≡ true
-    either true h = refl
-    either false h = h
+enumeration-narrow c e = one-of (widthOf c) (follows _ _ (parts c .narrow) (ap isEnumeration e))

@@ -19,7 +19,7 @@ use Rattle.flattened.specs.Order.{Order, numberAt}
 use Rattle.flattened.specs.Token.{string, Token}
 use Rattle.flattened.specs.Walk.{token, scalarAt, textAt, follow, repeat, walkFields, walk, walkAll}
 use Rattle.flattened.specs.inner.Progress.{Reads}
-use Rattle.flattened.specs.inner.Extent.{isScalar, ruleOf, keeps, refusedBy, joint, extentFields, extentOf, extentAll}
+use Rattle.flattened.specs.inner.Extent.{isScalar, ruleOf, keeps, joint, extentFields, extentOf, extentAll}
 use Rattle.flattened.specs.inner.Columns.{beyond, KeptFields, Kept, KeptAll}
 use Rattle.flattened.specs.declared.extent.Extent.{Extent}
 use Rattle.flattened.specs.declared.extent.Extent.the-variants.{Varies, Fixed, Around}
@@ -155,21 +155,21 @@ module _ (s : List ℕ) where
 
   -- a scalar
   scalar-extends : (o : Order) (c : ℕ) (b : Fields) (inside : ℕ → Outcome (List Token)) (at : ℕ) → isScalar b ≡ true
-      → Takes s (widthOf c) 1 (keeps (ruleOf c b) (numberAt o s at (widthOf c)) ≡ true) at (walkFields o c b inside s at)
+      → Takes s (widthOf c) 1 (keeps (ruleOf b) (numberAt o s at (widthOf c)) ≡ true) at (walkFields o c b inside s at)
   unfolding scalarAt
   scalar-extends o c b inside at e =
       let ruled = scalar-ruled o c s at b inside e in
       rw ruled (record {
-        ends = judged (keeps (ruleOf c b) (numberAt o s at (widthOf c))) (refusedBy (ruleOf c b));
+        ends = judged (keeps (ruleOf b) (numberAt o s at (widthOf c)));
         reads = λ kept room. record {
           tokens = _;
-          eq = ruled-read o c s at (ruleOf c b) room kept;
+          eq = ruled-read o c s at (ruleOf b) room kept;
           count = refl;
         };
       })
     where
-      judged : (fits : Bool) (number : ℕ) → Holds (λ q ts. Ends (widthOf c) 1 at q ts) (scalarAt c s at fits number)
-      judged fits number =
+      judged : (fits : Bool) → Holds (λ q ts. Ends (widthOf c) 1 at q ts) (scalarAt c s at fits)
+      judged fits =
           holds-require (leb (at + widthOf c) (length s)) _ _ (λ _.
           holds-require fits _ _ (λ _. found (record { at = refl; count = refl })))
 

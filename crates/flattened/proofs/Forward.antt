@@ -1,14 +1,13 @@
 -- "Each piece starts exactly where the one before it ended .. Every type needs at least one byte": a walk that reads ends within the data,
 -- and not before its start has been passed by as many bytes as it read tokens. Rests on the definitions of the walk.
 use mathlib.Core.Path.{_≡_, refl}
-use mathlib.Core.Bool.{Bool, not, _||_}
+use mathlib.Core.Bool.{Bool, true}
 use mathlib.Core.List.{List}
 use Prim.Native.Nat.{ℕ, zero, suc, _+_, _*_, _<_, _≤_}
 use native.Mathlib.Omega.{arith}
 use borrow.Author.Tests.{leb-true}
-use lib.Dec.{leb, ltb, eqb}
-use lib.ListN.{length, getD, length-append}
-use Rattle.descriptor.specs.Codes.{booleanCode}
+use lib.Dec.{leb, ltb}
+use lib.ListN.{length, length-append}
 use Rattle.descriptor.specs.Tree.{Fields, empty, items, pairs, text, dimensions, members, subtype, Tree, node, Forest, nil, cons, forestLength}
 use Rattle.descriptor.specs.Outcome.{Outcome}
 use Rattle.descriptor.proofs.Outcomes.{Holds, found, holds-require, holds-andThen, holds-weaken}
@@ -16,7 +15,7 @@ use Rattle.descriptor.specs.Width.{widthOf}
 use Rattle.descriptor.specs.Limits.{lengthLimit}
 use Rattle.flattened.specs.Order.{Order, numberAt}
 use Rattle.flattened.specs.Token.{Token}
-use Rattle.flattened.specs.Walk.{scalarAt, plainAt, textAt, sizesAt, sizesFit, arrayAt, follow, repeat, walkFields, walk, walkAll}
+use Rattle.flattened.specs.Walk.{scalarAt, textAt, sizesAt, sizesFit, arrayAt, follow, repeat, walkFields, walk, walkAll}
 use Rattle.flattened.specs.inner.Types.{SolidFields, Solid, AllSolid}
 
 -- from `at` up to q, with at least `least` tokens, each of a byte or more
@@ -43,9 +42,9 @@ module _ (s : List ℕ) where
   forward-least l h = holds-weaken h (λ q ts e. record { many = omega (arith, e .many); tokens = e .tokens; inside = e .inside })
 
   -- a scalar that has a width
-  scalar-forward : (c at : ℕ) (fits : Bool) (number : ℕ) → 0 < widthOf c → Holds (λ q ts. Forward s 1 at q ts) (scalarAt c s at fits number)
+  scalar-forward : (c at : ℕ) (fits : Bool) → 0 < widthOf c → Holds (λ q ts. Forward s 1 at q ts) (scalarAt c s at fits)
   unfolding scalarAt
-  scalar-forward c at fits number some =
+  scalar-forward c at fits some =
       holds-require (leb (at + widthOf c) (length s)) _ _ (λ room.
       holds-require fits _ _ (λ _. found (record { many = omega arith; tokens = omega arith; inside = leb-true _ _ room })))
 
@@ -77,10 +76,10 @@ module _ (s : List ℕ) where
   fields-forward : (o : Order) (c : ℕ) (b : Fields) (f : Forest) (inside : ℕ → Outcome (List Token)) → SolidFields c b f
       → ((a : ℕ) → a ≤ length s → Holds (λ q ts. Forward s (forestLength f) a q ts) (inside a)) → (at : ℕ) → at ≤ length s
       → Holds (λ q ts. Forward s 1 at q ts) (walkFields o c b inside s at)
-  unfolding walkFields plainAt SolidFields
-  fields-forward o c empty f inside some each at h = scalar-forward c at (not (eqb c booleanCode) || leb (getD s at 0) 1) 24 some
-  fields-forward o c (items xs) f inside some each at h = scalar-forward c at (ltb (numberAt o s at (widthOf c)) (length xs)) 23 some
-  fields-forward o c (pairs ps) f inside some each at h = scalar-forward c at (not (eqb c booleanCode) || leb (getD s at 0) 1) 24 some
+  unfolding walkFields SolidFields
+  fields-forward o c empty f inside some each at h = scalar-forward c at true some
+  fields-forward o c (items xs) f inside some each at h = scalar-forward c at (ltb (numberAt o s at (widthOf c)) (length xs)) some
+  fields-forward o c (pairs ps) f inside some each at h = scalar-forward c at true some
   fields-forward o c text f inside some each at h = text-forward o at
   fields-forward o c (dimensions k) f inside some each at h =
       holds-andThen (sizes-end o k at) (λ next n e.

@@ -1,21 +1,20 @@
 -- What a refusal of data says: its number is never 0, so that 0 means accepted, and its place lies in the data or right after it, where
 -- the walk starts there. Rests on the definitions of the walk alone.
 use mathlib.Core.Path.{_≡_, refl, subst}
-use mathlib.Core.Bool.{Bool, true, false, not, _||_}
+use mathlib.Core.Bool.{Bool, true, false}
 use mathlib.Core.List.{List}
 use Prim.Native.Nat.{ℕ, zero, suc, _+_, _*_, _<_, _≤_}
 use native.Mathlib.Omega.{arith}
 use borrow.Author.Tests.{leb-true}
 use lib.Dec.{leb, ltb, eqb}
-use lib.ListN.{length, getD}
+use lib.ListN.{length}
 use Rattle.descriptor.specs.Limits.{dataLimit, lengthLimit}
-use Rattle.descriptor.specs.Codes.{booleanCode}
 use Rattle.descriptor.specs.Width.{widthOf}
 use Rattle.descriptor.specs.Tree.{Fields, empty, items, pairs, text, dimensions, members, subtype, Tree, node, Forest, nil, cons}
 use Rattle.descriptor.specs.Outcome.{Outcome, refused, read, andThen, require}
 use Rattle.flattened.specs.Order.{Order, numberAt}
 use Rattle.flattened.specs.Token.{Token}
-use Rattle.flattened.specs.Walk.{scalarAt, plainAt, textAt, sizesAt, sizesFit, arrayAt, follow, repeat, walkFields, walk, walkAll, walked}
+use Rattle.flattened.specs.Walk.{scalarAt, textAt, sizesAt, sizesFit, arrayAt, follow, repeat, walkFields, walk, walkAll, walked}
 
 module _ (s : List ℕ) where
   -- what is read ends in the data; a refusal has a number and a place in it
@@ -40,10 +39,10 @@ module _ (s : List ℕ) where
   kept-follow k f = kept-andThen k (λ q ts l. kept-andThen (f q l) (λ r us m. reading m))
 
   -- a scalar
-  scalar-kept : (c p : ℕ) (fits : Bool) (number : ℕ) → 0 < number → p ≤ length s → Kept (scalarAt c s p fits number)
+  scalar-kept : (c p : ℕ) (fits : Bool) → p ≤ length s → Kept (scalarAt c s p fits)
   unfolding scalarAt
-  scalar-kept c p fits number n l =
-      kept-require (leb (p + widthOf c) (length s)) 21 p (omega arith) l (λ room. kept-require fits number p n l (λ _. reading (leb-true _ _ room)))
+  scalar-kept c p fits l =
+      kept-require (leb (p + widthOf c) (length s)) 21 p (omega arith) l (λ room. kept-require fits 23 p (omega arith) l (λ _. reading (leb-true _ _ room)))
 
   -- parts in a row
   repeat-kept : (f : ℕ → Outcome (List Token)) → ((p : ℕ) → p ≤ length s → Kept (f p)) → (n p : ℕ) → p ≤ length s → Kept (repeat f n p)
@@ -54,10 +53,10 @@ module _ (s : List ℕ) where
   -- a type's fields
   fields-kept : (o : Order) (c : ℕ) (fs : Fields) (inside : ℕ → Outcome (List Token)) → ((p : ℕ) → p ≤ length s → Kept (inside p)) → (p : ℕ)
       → p ≤ length s → Kept (walkFields o c fs inside s p)
-  unfolding walkFields plainAt textAt arrayAt
-  fields-kept o c empty inside h p l = scalar-kept c p (not (eqb c booleanCode) || leb (getD s p 0) 1) 24 (omega arith) l
-  fields-kept o c (items xs) inside h p l = scalar-kept c p (ltb (numberAt o s p (widthOf c)) (length xs)) 23 (omega arith) l
-  fields-kept o c (pairs ps) inside h p l = scalar-kept c p (not (eqb c booleanCode) || leb (getD s p 0) 1) 24 (omega arith) l
+  unfolding walkFields textAt arrayAt
+  fields-kept o c empty inside h p l = scalar-kept c p true l
+  fields-kept o c (items xs) inside h p l = scalar-kept c p (ltb (numberAt o s p (widthOf c)) (length xs)) l
+  fields-kept o c (pairs ps) inside h p l = scalar-kept c p true l
   fields-kept o c text inside h p l =
       kept-require (leb (p + 4) (length s)) 21 p (omega arith) l (λ _.
       kept-require (ltb (numberAt o s p 4) lengthLimit) 22 p (omega arith) l (λ _.

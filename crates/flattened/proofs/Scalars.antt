@@ -11,7 +11,7 @@ use Rattle.descriptor.specs.inner.Standing.{Stands}
 use Rattle.flattened.specs.Order.{Order, numberAt}
 use Rattle.flattened.specs.Walk.{walk}
 use Rattle.flattened.specs.inner.Cursor.{cursor}
-use Rattle.flattened.specs.inner.Extent.{typeRule, keeps, refusedBy}
+use Rattle.flattened.specs.inner.Extent.{typeRule, keeps}
 use Rattle.flattened.specs.inner.Progress.{progress}
 use Rattle.flattened.specs.inner.Types.{typeAt}
 use Rattle.flattened.specs.declared.cursor.Cursor.{Cursor}
@@ -41,7 +41,7 @@ module _ (d : List ℕ) (p : ℕ) (here : Stands d p) (w : ℕ) (wide : w ≡ wi
     unfolding progress keeps
     scalar-any e = walked ∙ sym (ap progress (ruled Any e ∙ ruled-read o (codeIn d p) s at Any fits refl))
 
-    module _ (limit number : ℕ) (rule : Below limit number ≡ typeRule (typeAt d p)) (v : ℕ) (is : v ≡ numberAt o s at w) where
+    module _ (limit : ℕ) (rule : Below limit ≡ typeRule (typeAt d p)) (v : ℕ) (is : v ≡ numberAt o s at w) where
       same : numberAt o s at (widthOf (codeIn d p)) ≡ v
       same = sym (is ∙ ap (λ (n : ℕ). numberAt o s at n) wide)
 
@@ -50,10 +50,10 @@ module _ (d : List ℕ) (p : ℕ) (here : Stands d p) (w : ℕ) (wide : w ≡ wi
       scalar-kept h =
           walked
           ∙ sym (ap progress
-          (ruled (Below limit number) rule ∙ ruled-read o (codeIn d p) s at (Below limit number) fits (lt-ltb _ limit (omega (arith, same)))))
+          (ruled (Below limit) rule ∙ ruled-read o (codeIn d p) s at (Below limit) fits (lt-ltb _ limit (omega (arith, same)))))
 
-      pub scalar-refused : limit ≤ v → Refused number at ≡ progress (walk o (typeAt d p) s at)
-      unfolding progress keeps refusedBy
+      pub scalar-refused : limit ≤ v → Refused 23 at ≡ progress (walk o (typeAt d p) s at)
+      unfolding progress keeps
       scalar-refused h =
           sym (ap progress
-          (ruled (Below limit number) rule ∙ ruled-refused o (codeIn d p) s at (Below limit number) fits (le-ltb _ limit (omega (arith, same)))))
+          (ruled (Below limit) rule ∙ ruled-refused o (codeIn d p) s at (Below limit) fits (le-ltb _ limit (omega (arith, same)))))

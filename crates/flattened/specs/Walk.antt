@@ -1,13 +1,13 @@
--- The walk of data under a type, from document 01, "How data is walked": its tokens, or the first refusal "piece by piece 21, 22, 23, 24".
+-- The walk of data under a type, from document 01, "How data is walked": its tokens, or the first refusal "piece by piece 21, 22, 23" (24 "is
+-- no longer given": document 02, CR 2).
 -- Every place is "piece start". A byte order is given: the little-endian form is walked "with these words read reversed".
-use mathlib.Core.Bool.{Bool, true, not, _&&_, _||_}
+use mathlib.Core.Bool.{Bool, true, _&&_}
 use mathlib.Core.List.{List, [], _∷_, _++_}
 use Prim.Native.Nat.{ℕ, zero, suc, _+_, _*_}
-use lib.ListN.{length, getD}
+use lib.ListN.{length}
 use lib.Dec.{leb, ltb, eqb}
 use Rattle.descriptor.specs.Tree.{Fields, empty, items, pairs, text, dimensions, members, subtype, Tree, node, Forest, nil, cons}
 use Rattle.descriptor.specs.Limits.{dataLimit, lengthLimit}
-use Rattle.descriptor.specs.Codes.{booleanCode}
 use Rattle.descriptor.specs.Outcome.{Outcome, refused, read, andThen, require}
 use Rattle.descriptor.specs.Width.{widthOf}
 use Rattle.flattened.specs.Order.{Order, numberAt}
@@ -20,14 +20,9 @@ token k a b = record { kind = k; start = a; stop = b }
 abbrev pub single : TokenKind → ℕ → ℕ → Outcome (List Token)
 single k at stop = read stop (token k at stop ∷ [])
 
--- a scalar of the code c: 21 where it is cut; then its number is judged by `fits`, else `number`
-unfoldable pub scalarAt : ℕ → List ℕ → ℕ → Bool → ℕ → Outcome (List Token)
-scalarAt c s at fits number =
-    require (leb (at + widthOf c) (length s)) 21 at (require fits number at (single (scalar c) at (at + widthOf c)))
-
--- "A Boolean's byte is 0 for false or 1 for true": 24 for any other byte under code 21; another code's number is as it comes
-unfoldable pub plainAt : ℕ → List ℕ → ℕ → Outcome (List Token)
-plainAt c s at = scalarAt c s at (not (eqb c booleanCode) || leb (getD s at 0) 1) 24
+-- a scalar of the code c: 21 where it is cut, then 23 where its number does not fit
+unfoldable pub scalarAt : ℕ → List ℕ → ℕ → Bool → Outcome (List Token)
+scalarAt c s at fits = require (leb (at + widthOf c) (length s)) 21 at (require fits 23 at (single (scalar c) at (at + widthOf c)))
 
 -- "A string is a 32-bit length and its characters." 21 for the length word, 22 for the length, 21 for the characters
 unfoldable pub textAt : Order → List ℕ → ℕ → Outcome (List Token)
@@ -71,10 +66,11 @@ repeat f (suc n) at = follow (f at) (λ next. repeat f n next)
 
 -- the data of a descriptor of the code c with the fields b, whose children's data is walked by `inside`
 unfoldable pub walkFields : Order → ℕ → Fields → (ℕ → Outcome (List Token)) → List ℕ → ℕ → Outcome (List Token)
-walkFields o c empty inside s at = plainAt c s at
+-- a number is as it comes, and a Boolean's byte too: document 02, CR 2, "any byte but zero is true"
+walkFields o c empty inside s at = scalarAt c s at true
 -- "An enumeration's number is below its item count (H)."
-walkFields o c (items xs) inside s at = scalarAt c s at (ltb (numberAt o s at (widthOf c)) (length xs)) 23
-walkFields o c (pairs ps) inside s at = plainAt c s at
+walkFields o c (items xs) inside s at = scalarAt c s at (ltb (numberAt o s at (widthOf c)) (length xs))
+walkFields o c (pairs ps) inside s at = scalarAt c s at true
 walkFields o c text inside s at = textAt o s at
 -- "then the elements, last dimension fastest"
 walkFields o c (dimensions k) inside s at =

@@ -1,7 +1,7 @@
 // What a type takes in data where that is the same for every value of it, or but for one string; and how the numbers of a scalar are judged.
-use descriptor::codes::BOOLEAN;
 use descriptor::codes::Kind;
 use descriptor::codes::is_compound;
+use descriptor::codes::is_enumeration;
 use descriptor::codes::kind_of;
 use descriptor::header::code_at;
 use descriptor::header::size_at;
@@ -15,10 +15,10 @@ ghost use Rattle.flattened.specs.inner.Types.{typeAt, typesAt, TypeStand
 ghost use Rattle.flattened.specs.inner.Extent.{typeRule, judges, joint, least, tokensIn, extentOf, extentAll};
 ghost use Rattle.flattened.specs.declared.extent.Extent.the-variants.{Fixed, Around};
 
-// Each number is below a limit, else refused with a number; or any will do.
+// Each number is below a limit, else refused; or any will do.
 pub enum Rule {
     Any,
-    Below(usize, u32),
+    Below(usize),
 }
 
 // The rule of the type at p.
@@ -26,16 +26,11 @@ pub fn rule_of(d: &[u8], p: usize) -> Rule
     requires { ⌜ Stands (now d) p ⌝ }
     ensures { λ r. ⌜ r ≡ typeRule (typeAt (now (d .entry)) p) ⌝ }
 {
-    let code = code_at(d, p);
-    let k = kind_of(code);
-    if let Kind::Enumeration = k {
-        let inside = inside_of(d, p);
-        return Rule::Below(inside.count, 23);
+    if !is_enumeration(code_at(d, p)) {
+        return Rule::Any;
     }
-    if code == BOOLEAN {
-        return Rule::Below(2, 24);
-    }
-    Rule::Any
+    let inside = inside_of(d, p);
+    Rule::Below(inside.count)
 }
 
 // Bytes and tokens, and whether any number among them is judged; or the bytes before and after one string, the tokens, and whether any
@@ -59,7 +54,7 @@ fn judges(r: Rule) -> bool
 {
     match r {
         Rule::Any => false,
-        Rule::Below(limit, number) => true,
+        Rule::Below(limit) => true,
     }
 }
 

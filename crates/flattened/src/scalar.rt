@@ -31,9 +31,9 @@ pub fn scalar(d: &[u8], p: usize, w: usize, s: &[u8], from: Cursor, o: Order) ->
     let rule = rule_of(d, p);
     match rule {
         Rule::Any => Progress::Walked(next, 1),
-        Rule::Below(limit, number) => {
+        Rule::Below(limit) => {
             if limit <= narrow_number(s, at, w, o) {
-                return Progress::Refused(number, at);
+                return Progress::Refused(23, at);
             }
             Progress::Walked(next, 1)
         }

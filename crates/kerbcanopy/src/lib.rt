@@ -53,8 +53,8 @@ pub extern "C" fn kc_normal_form(descriptor: &[u8], out: &mut [u8]) -> Answer
 }
 
 // Reads any bytes as data of the descriptor's type. Accepted: number 0, input 0, and the place is the piece count. Refused: the
-// descriptor's 1 to 12 with input 1; else with input 3 the number 20 to 25 that comes first in document 01's order, and its place: 0 for
-// 20, the first byte left over for 25, for the others the start of the piece at fault.
+// descriptor's 1 to 12 with input 1; else with input 3 the number 20 to 23 or 25 that comes first in document 01's order, and its place:
+// 0 for 20, the first byte left over for 25, for the others the start of the piece at fault.
 #[no_mangle]
 pub extern "C" fn kc_check_data(descriptor: &[u8], data: &[u8]) -> Answer
     ensures { λ r. ⌜ r ≡ dataCheck (now (descriptor .entry)) (now («data» .entry)) ⌝ }

@@ -1,7 +1,7 @@
 -- The value of a code and a number, by the code's group; and a code whose numbers are wider than eight bytes has no value.
 -- Rests on the definitions of the values and on the table of widths.
 use mathlib.Core.Path.{_≡_, refl, sym, ap, subst}
-use mathlib.Core.Bool.{Bool, true, false, _&&_}
+use mathlib.Core.Bool.{Bool, true, false, not, _&&_}
 use mathlib.Core.Logic.{_⊎_, ⊎-elim}
 use Prim.Native.Nat.{ℕ, _+_, _-_, _<_, _≤_}
 use native.Mathlib.Decide.{decLt}
@@ -80,7 +80,7 @@ module _ (c v : ℕ) where
   unfolding valueOf
   value-double e = ⊎-elim (λ h. sym (ap (λ (x : ℕ). valueOf x v) h)) (λ h. sym (ap (λ (x : ℕ). valueOf x v) h)) e
 
-  pub value-flag : c ≡ 33 → Flag (eqb v 1) ≡ valueOf c v
+  pub value-flag : c ≡ 33 → Flag (not (eqb v 0)) ≡ valueOf c v
   unfolding valueOf
   value-flag h = sym (ap (λ (x : ℕ). valueOf x v) h)
 

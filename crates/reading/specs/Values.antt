@@ -1,6 +1,6 @@
 -- "Value by path: an unsigned number, a signed number, a single, a double or a flag, by code (01 to 04 signed; 05 to 08 and 15 to 17
 -- unsigned; 09, 19 and 0A, 1A by their exact bits; 21 a flag)."
-use mathlib.Core.Bool.{Bool, true, false, cond, _||_}
+use mathlib.Core.Bool.{Bool, true, false, cond, not, _||_}
 use mathlib.Core.List.{List}
 use Prim.Native.Nat.{ℕ, _+_, _-_, _^_}
 use lib.Dec.{eqb}
@@ -34,14 +34,15 @@ unfoldable pub ofDouble : Double → Value
 ofDouble (double.Number x) = DoubleValue x
 ofDouble (double.Nan bits) = DoubleNan bits
 
--- the value of the code c whose bytes are the number v; `Nothing` where there is "no single number"
+-- the value of the code c whose bytes are the number v; `Nothing` where there is "no single number". Of a Boolean "any byte but zero is true"
+-- (document 02, CR 2).
 unfoldable pub valueOf : ℕ → ℕ → Value
 valueOf c v =
     cond (between 0x01 0x04 c) (Signed (signed (widthOf c) v))
     (cond (between 0x05 0x08 c || between 0x15 0x17 c) (Unsigned v)
     (cond (eqb c 0x09 || eqb c 0x19) (ofSingle (singleOf v))
     (cond (eqb c 0x0A || eqb c 0x1A) (ofDouble (doubleOf v))
-    (cond (eqb c 0x21) (Flag (eqb v 1))
+    (cond (eqb c 0x21) (Flag (not (eqb v 0)))
     Nothing))))
 
 -- whether there is a value

@@ -64,7 +64,7 @@ pub fn value_of(code: u8, bits: u64) -> Value
         0x05..=0x08 | 0x15..=0x17 => Value::Unsigned(bits),
         0x09 | 0x19 => single_value(bits as u32),
         0x0A | 0x1A => double_value(bits),
-        0x21 => Value::Flag(bits == 1),
+        0x21 => Value::Flag(bits != 0),
         _ => Value::Nothing,
     }
 }

@@ -23,7 +23,7 @@ use Rattle.members.proofs.Filled.{each-more}
 use Rattle.members.proofs.InRow.{no-types, types-at}
 use Rattle.members.proofs.Listing.{member-inner, member-name, member-name-fits}
 use Rattle.members.proofs.Joined.{startBytes, picked-more}
-use Rattle.resolution.specs.Record.{Member, namesakes, memberBytes, joinedBytes}
+use Rattle.resolution.specs.Record.{Member, namesakes, memberFound, memberBytes, joinedBytes}
 use Rattle.resolution.specs.inner.Data.{dataFrom}
 use Rattle.resolution.specs.inner.Searching.{Listed, allMembers}
 use Rattle.resolution.specs.inner.Picking.{Called, Picks, Naming, PickedWithin, Ascends, StartsIn, Plans}
@@ -36,6 +36,12 @@ picked-set s starts picks j i (suc m) h =
     let other : getD (set picks j i) m 0 ≡ getD picks m 0 = getD-set-other picks j m i 0 (λ e. omega arith) in
     let before = picked-set s starts picks j i m (omega arith) in
     λ t. before t ++ startBytes s starts (other t)
+
+-- a member that is not found has no bytes
+no-bytes : (j : ℕ) (t : Tree) (s : List ℕ) (ms : List Member) {number place : ℕ} → memberFound j t ms ≡ refused number place
+    → memberBytes j t s ms ≡ refused number place
+unfolding memberBytes
+no-bytes j t s ms e = rw e refl
 
 -- what is joined behind two parts
 behind : (o : Outcome (List ℕ)) (x y : List ℕ)
@@ -110,13 +116,12 @@ module _ (w : List ℕ) (k : ℕ) (r : List ℕ) (n : ℕ) (reading called start
 
         -- is at fault
         pub plan-lost : x .ok ≡ false → Plans w k r n starts picks x
-        unfolding memberBytes
         plan-lost off = record {
           lost = λ _ s c.
               split s c
-              ∙ ap (λ (o : Outcome Member). andThen (andThen (andThen o (λ at m. read at (slice (m .start) (m .stop) s)))
-              (λ _ y. andThen (joinedBytes (j + 1) others s (allMembers w k s)) (λ last xs. read last (y ++ xs))))
-              (λ last xs. read last (pickedBytes s starts picks j ++ xs))) (picks-it .lost off s);
+              ∙ ap (λ (o : Outcome (List ℕ)). andThen
+              (andThen o (λ _ y. andThen (joinedBytes (j + 1) others s (allMembers w k s)) (λ last xs. read last (y ++ xs))))
+              (λ last xs. read last (pickedBytes s starts picks j ++ xs))) (no-bytes j (typeAt r q) s (namesakes (typeAt r q) (allMembers w k s)) (picks-it .lost off s));
           got = λ on. impossible (sym off ∙ on);
           long = λ on. impossible (sym off ∙ on);
           within = λ on. impossible (sym off ∙ on);

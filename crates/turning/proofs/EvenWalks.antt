@@ -1,15 +1,14 @@
 -- Types whose values all take the same bytes: the walk of one reads its numbers in order and nothing else, so that n of them in a row are
 -- turned as elements of these numbers. Over the type. Rests on the laws of tokens, of elements and of such types.
 use mathlib.Core.Path.{_≡_, refl, sym, ap₂, _∙_}
-use mathlib.Core.Bool.{Bool, true, not, _||_}
+use mathlib.Core.Bool.{Bool, true}
 use mathlib.Core.List.{List}
 use Prim.Native.Nat.{ℕ, zero, suc, _+_, _*_, _<_, _≤_}
 use native.Mathlib.Nat.{add-zero, suc-mul}
 use native.Mathlib.Omega.{arith}
 use borrow.Author.Tests.{leb-true}
-use lib.Dec.{leb, ltb, eqb}
-use lib.ListN.{length, getD}
-use Rattle.descriptor.specs.Codes.{booleanCode}
+use lib.Dec.{leb, ltb}
+use lib.ListN.{length}
 use Rattle.descriptor.specs.Outcome.{Outcome, refused, read}
 use Rattle.descriptor.specs.Tree.{empty, items, pairs, text, dimensions, members, subtype, Tree, node, Forest, nil, cons}
 use Rattle.descriptor.specs.Width.{widthOf}
@@ -18,7 +17,7 @@ use Rattle.descriptor.proofs.Outcomes.{Holds, found, holds-read, holds-require,
 use Rattle.descriptor.proofs.Steps.{impossible}
 use Rattle.flattened.specs.Order.{Order, numberAt}
 use Rattle.flattened.specs.Token.{Token}
-use Rattle.flattened.specs.Walk.{scalarAt, plainAt, repeat, walkFields, walk, walkAll}
+use Rattle.flattened.specs.Walk.{scalarAt, repeat, walkFields, walk, walkAll}
 use Rattle.flattened.specs.inner.Extent.{extentFields, extentOf, extentAll}
 use Rattle.byteorder.specs.Reversal.{numberCount, numberWidth}
 use Rattle.turning.specs.inner.Tokens.{turnedTokens, tokensOf, Turnable, Turned}
@@ -36,10 +35,10 @@ pub record Numbered (s : List ℕ) (ws : List ℕ) (at q : ℕ) (ts : List Token
 
 module _ (s : List ℕ) where
   -- a scalar
-  scalar-numbered : (c at : ℕ) (fits : Bool) (number : ℕ)
-      → Holds (λ q ts. Numbered s (copies (numberCount c) (numberWidth c)) at q ts) (scalarAt c s at fits number)
+  scalar-numbered : (c at : ℕ) (fits : Bool)
+      → Holds (λ q ts. Numbered s (copies (numberCount c) (numberWidth c)) at q ts) (scalarAt c s at fits)
   unfolding scalarAt
-  scalar-numbered c at fits number =
+  scalar-numbered c at fits =
       holds-require (leb (at + widthOf c) (length s)) _ _ (λ room.
       holds-require fits _ _ (λ _.
       found (record {
@@ -49,13 +48,13 @@ module _ (s : List ℕ) where
       })))
 
   mutual
-    unfolding isFixed extentOf extentFields numbersIn numbersFields total turnedNumbers turnedTokens walk walkFields plainAt
+    unfolding isFixed extentOf extentFields numbersIn numbersFields total turnedNumbers turnedTokens walk walkFields
 
     type-numbered : (t : Tree) → isFixed (extentOf t) ≡ true → (o : Order) (at : ℕ) → at ≤ length s
         → Holds (λ q ts. Numbered s (numbersIn t) at q ts) (walk o t s at)
-    type-numbered (node c empty f m) e o at h = scalar-numbered c at (not (eqb c booleanCode) || leb (getD s at 0) 1) 24
-    type-numbered (node c (items xs) f m) e o at h = scalar-numbered c at (ltb (numberAt o s at (widthOf c)) (length xs)) 23
-    type-numbered (node c (pairs ps) f m) e o at h = scalar-numbered c at (not (eqb c booleanCode) || leb (getD s at 0) 1) 24
+    type-numbered (node c empty f m) e o at h = scalar-numbered c at true
+    type-numbered (node c (items xs) f m) e o at h = scalar-numbered c at (ltb (numberAt o s at (widthOf c)) (length xs))
+    type-numbered (node c (pairs ps) f m) e o at h = scalar-numbered c at true
     type-numbered (node c text f m) e o at h = impossible e
     type-numbered (node c (dimensions k) f m) e o at h = impossible e
     type-numbered (node c (members k) f m) e o at h = row-numbered f e o at h

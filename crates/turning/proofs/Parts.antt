@@ -60,7 +60,7 @@ module _ (d : List ℕ) (p : ℕ) (here : Stands d p) (code w : ℕ) (coded : co
   each : (a : ℕ) → isRead (value a) ≡ true → ScalarRead value (codeIn d p) s a
   each a e =
       let walked = walk-number d p here (omega (arith, width)) o s a in
-      let r = scalar-read (codeIn d p) s a _ _ (sym (ap isRead walked) ∙ e) in
+      let r = scalar-read (codeIn d p) s a _ (sym (ap isRead walked) ∙ e) in
       record { fits = r .0; eq = walked ∙ r .1 }
 
   pub scalars-done : (n at : ℕ) (out after : List ℕ) → Turnable (repeat value n at) s out at → after ≡ turnedRun (numberWidth code) s (n * numberCount code) at out

@@ -36,12 +36,12 @@ pub record ScalarRead (f : ℕ → Outcome (List Token)) (c : ℕ) (s : List ℕ
   pub fits : a + widthOf c ≤ length s
   pub eq : f a ≡ single (scalar c) a (a + widthOf c)
 
-pub scalar-read : (c : ℕ) (s : List ℕ) (a : ℕ) (keeps : Bool) (number : ℕ) → isRead (scalarAt c s a keeps number) ≡ true
-    → (a + widthOf c ≤ length s) × (scalarAt c s a keeps number ≡ single (scalar c) a (a + widthOf c))
+pub scalar-read : (c : ℕ) (s : List ℕ) (a : ℕ) (keeps : Bool) → isRead (scalarAt c s a keeps) ≡ true
+    → (a + widthOf c ≤ length s) × (scalarAt c s a keeps ≡ single (scalar c) a (a + widthOf c))
 unfolding scalarAt
-scalar-read c s a keeps number e =
-    let room = tested (leb (a + widthOf c) (length s)) 21 a (require keeps number a (single (scalar c) a (a + widthOf c))) e in
-    let kept = tested keeps number a (single (scalar c) a (a + widthOf c)) (sym (ap isRead (room .1)) ∙ e) in
+scalar-read c s a keeps e =
+    let room = tested (leb (a + widthOf c) (length s)) 21 a (require keeps 23 a (single (scalar c) a (a + widthOf c))) e in
+    let kept = tested keeps 23 a (single (scalar c) a (a + widthOf c)) (sym (ap isRead (room .1)) ∙ e) in
     (leb-true _ _ (room .0), room .1 ∙ kept .1)
 
 -- scalars in a row

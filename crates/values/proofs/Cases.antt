@@ -13,8 +13,8 @@ use Rattle.descriptor.specs.Encoding.{fieldBytes, nameBytes, encodeWith, encode
 use Rattle.descriptor.specs.Outcome.{refused}
 use Rattle.descriptor.specs.Width.{widthOf}
 use Rattle.flattened.specs.Order.{big, little, numberAt}
-use Rattle.flattened.specs.Walk.{scalarAt, plainAt, sizesAt, sizesFit, product, arrayAt, repeat, walkFields, walk, walked}
-use Rattle.values.specs.Value.{Value, numbers, elements, parts, none, also, count, numberLimit, AllBelow, Fits, plain, array, cluster, without, done, member, ordered, inOrder, flatten, Data}
+use Rattle.flattened.specs.Walk.{scalarAt, sizesAt, sizesFit, product, arrayAt, repeat, walkFields, walk, walked}
+use Rattle.values.specs.Value.{Value, numbers, elements, parts, none, also, count, AllBelow, Fits, plain, array, cluster, without, done, member, ordered, inOrder, flatten, Data}
 use Rattle.byteorder.specs.Reversal.{numberCount, numberWidth}
 use Rattle.values.specs.Pieces.{piecesAt, pieces}
 use Rattle.values.proofs.Accepted.{refused-none}
@@ -38,7 +38,7 @@ abbrev noDoubles : Value
 noDoubles = elements (0 ∷ []) none
 
 pub pair-fits : Fits pairType pair
-unfolding numberCount numberWidth numberLimit AllBelow widthOf
+unfolding numberCount numberWidth AllBelow widthOf
 pair-fits =
     cluster
     (member (plain {c = 2} {ns = 65534 ∷ []} (record { many = refl; below = (omega arith, tt) }))
@@ -74,7 +74,7 @@ pub cases : (encode pairType ≡ 0 ∷ 14 ∷ 0 ∷ 80 ∷ 0 ∷ 2 ∷ 0 ∷ 4 �
     -- a complex number is not reversed "as one run of bytes": 0000 0001 0000 0002, little-endian 0100 0000 0200 0000
     × (flatten big (unnamedScalar 12) (numbers (1 ∷ 2 ∷ [])) ≡ 0 ∷ 0 ∷ 0 ∷ 1 ∷ 0 ∷ 0 ∷ 0 ∷ 2 ∷ [])
     × (flatten little (unnamedScalar 12) (numbers (1 ∷ 2 ∷ [])) ≡ 1 ∷ 0 ∷ 0 ∷ 0 ∷ 2 ∷ 0 ∷ 0 ∷ 0 ∷ [])
-unfolding be beBytes leBytes signed fieldsSize nameSize treeSize fieldBytes nameBytes encodeWith widthOf numberAt scalarAt plainAt sizesAt sizesFit product arrayAt repeat walkFields walk walked numberWidth ordered inOrder flatten piecesAt
+unfolding be beBytes leBytes signed fieldsSize nameSize treeSize fieldBytes nameBytes encodeWith widthOf numberAt scalarAt sizesAt sizesFit product arrayAt repeat walkFields walk walked numberWidth ordered inOrder flatten piecesAt
 cases = (refl, refl, refl, refl, refl, refl, refl, refl, refl, refl, refl, refl, refl)
 
 -- so neither 0000 0001 nor 8000 0000 is any value's bytes

@@ -16,13 +16,13 @@ use Rattle.descriptor.specs.Width.{widthOf}
 use Rattle.flattened.specs.Order.{Order, big, numberAt}
 use Rattle.flattened.specs.Token.{TokenKind, scalar, string, sizes, Token, tokenBytes}
 use Rattle.descriptor.specs.Limits.{lengthLimit}
-use Rattle.flattened.specs.Walk.{token, single, scalarAt, plainAt, textAt, sizesAt, sizesFit, product, arrayAt, follow, repeat, walkFields, walk, walkAll}
+use Rattle.flattened.specs.Walk.{token, single, scalarAt, textAt, sizesAt, sizesFit, product, arrayAt, follow, repeat, walkFields, walk, walkAll}
 use Rattle.byteorder.specs.Reversal.{reverseEach, reverseToken, reversed, numberWidth}
 use Rattle.values.specs.Value.{Value, Values, count, AllBelow, Scalar, Fits, plain, enumeration, quantity, array, cluster, stamp, AllFit, without, element, EachFits, done, member, other, ordered, inOrder, flatten, flattenElements, flattenMembers}
 use Rattle.values.specs.Pieces.{piecesAt, elementPieces, memberPieces}
 use Rattle.values.proofs.Places.{Here, here-up-to, here-first, here-second}
 use Rattle.values.proofs.Numbers.{length-ordered, number-read, length-inOrder, numbersAt, numbers-read, first-reversed, inOrder-reversed, below-less}
-use Rattle.values.proofs.Scalars.{lone-width, scalar-bound, scalar-length, flag-passes}
+use Rattle.values.proofs.Scalars.{lone-width, scalar-length}
 use Rattle.values.proofs.Lengths.{value-length}
 
 -- the outcome r is a walk of s up to q with the tokens ts, whose numbers reversed are x
@@ -71,11 +71,11 @@ walks-as {s} e f g w =
 
 module _ (o : Order) (s : List ℕ) where
   -- a scalar that passes its test
-  scalar-walks : (c p : ℕ) (ns : List ℕ) (fits : Bool) (number : ℕ) → Scalar c ns → Here s p (inOrder o (numberWidth c) ns) → fits ≡ true
+  scalar-walks : (c p : ℕ) (ns : List ℕ) (fits : Bool) → Scalar c ns → Here s p (inOrder o (numberWidth c) ns) → fits ≡ true
       → Walks s (p + length (inOrder o (numberWidth c) ns)) (token (scalar c) p (p + widthOf c) ∷ []) (inOrder (other o) (numberWidth c) ns)
-      (scalarAt c s p fits number)
+      (scalarAt c s p fits)
   unfolding scalarAt reverseToken
-  scalar-walks c p ns fits number h e t =
+  scalar-walks c p ns fits h e t =
       let w : ℕ = numberWidth c in
       let x : List ℕ = inOrder o w ns in
       let end : p + widthOf c ≡ p + length x = omega (arith, scalar-length o c ns (h .many)) in
@@ -85,24 +85,23 @@ module _ (o : Order) (s : List ℕ) where
       ∙ append-nil _ in
       walks-as end refl refl
       (walks-require 21 p (le-leb (p + widthOf c) (length s) (omega (arith, e .within)))
-      (walks-require number p t (walks-single s (scalar c) p (p + widthOf c) x (inOrder (other o) w ns) e end turn)))
+      (walks-require 23 p t (walks-single s (scalar c) p (p + widthOf c) x (inOrder (other o) w ns) e end turn)))
 
   -- a scalar of any code but an enumeration's
   plain-walks : (c p : ℕ) (ns : List ℕ) → Scalar c ns → Here s p (inOrder o (numberWidth c) ns)
-      → Walks s (p + length (inOrder o (numberWidth c) ns)) (token (scalar c) p (p + widthOf c) ∷ []) (inOrder (other o) (numberWidth c) ns) (plainAt c s p)
-  unfolding plainAt
-  plain-walks c p ns h e = scalar-walks c p ns _ 24 h e (flag-passes o s p c ns h e)
+      → Walks s (p + length (inOrder o (numberWidth c) ns)) (token (scalar c) p (p + widthOf c) ∷ []) (inOrder (other o) (numberWidth c) ns) (scalarAt c s p true)
+  plain-walks c p ns h e = scalar-walks c p ns true h e refl
 
   -- an enumeration's number
   item-walks : (c p n k : ℕ) → Scalar c (n ∷ []) → n < k → Here s p (inOrder o (numberWidth c) (n ∷ []))
       → Walks s (p + length (inOrder o (numberWidth c) (n ∷ []))) (token (scalar c) p (p + widthOf c) ∷ []) (inOrder (other o) (numberWidth c) (n ∷ []))
-      (scalarAt c s p (ltb (numberAt o s p (widthOf c)) k) 23)
+      (scalarAt c s p (ltb (numberAt o s p (widthOf c)) k))
   unfolding inOrder AllBelow
   item-walks c p n k h l e =
       let one : numberAt o s p (numberWidth c) ≡ n =
-      number-read o s p (numberWidth c) n (scalar-bound c (n ∷ []) h .0) (here-first s p (ordered o (numberWidth c) n) [] e) in
+      number-read o s p (numberWidth c) n (h .below .0) (here-first s p (ordered o (numberWidth c) n) [] e) in
       let same : numberAt o s p (widthOf c) ≡ n = ap (λ (w : ℕ). numberAt o s p w) (sym (lone-width c (h .many))) ∙ one in
-      scalar-walks c p (n ∷ []) _ 23 h e (lt-ltb (numberAt o s p (widthOf c)) k (omega arith))
+      scalar-walks c p (n ∷ []) _ h e (lt-ltb (numberAt o s p (widthOf c)) k (omega arith))
 
   -- a string
   text-walks : (p : ℕ) (x : List ℕ) → length x < lengthLimit → Here s p (ordered o 4 (length x) ++ x)

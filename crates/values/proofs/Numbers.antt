@@ -3,9 +3,9 @@
 use mathlib.Core.Path.{_≡_, refl, sym, ap, ap₂, _∙_}
 use mathlib.Core.List.{List, [], _∷_, _++_, append-assoc, reverse, reverse-reverse}
 use Prim.Native.Nat.{ℕ, zero, suc, _+_, _*_, _%_, _^_, _≤_, _<_}
-use native.Mathlib.Nat.{add-zero, zero-add, mod-eq-of-lt}
+use native.Mathlib.Nat.{mod-eq-of-lt}
 use native.Mathlib.Omega.{arith}
-use lib.ListN.{length, getD, length-append}
+use lib.ListN.{length, length-append}
 use lib.Seq.{slice, take-at, drop-at}
 use Rattle.number.specs.Endian.{be, le, beBytes, leBytes}
 use Rattle.number.proofs.Reading.{be-bound, le-bound}
@@ -45,12 +45,6 @@ pub number-read : (o : Order) (s : List ℕ) (p w n : ℕ) → n < 256 ^ w → H
 number-read o s p w n h e =
     let long = length-ordered o w n in
     part-number o s p w n (omega (arith, e .within)) (here-up-to s p (p + w) (ordered o w n) e (omega arith)) ∙ mod-eq-of-lt h
-
--- one byte
-pub byte-read : (o : Order) (s : List ℕ) (p : ℕ) → numberAt o s p 1 ≡ getD s p 0
-unfolding numberAt be le
-byte-read big s p = zero-add (getD s (p + 0) 0) ∙ ap (λ (k : ℕ). getD s k 0) (add-zero p)
-byte-read little s p = zero-add (getD s p 0)
 
 -- two numbers of the same bytes are one
 pub ordered-apart : (o : Order) (w n k : ℕ) → n < 256 ^ w → k < 256 ^ w → ordered o w n ≡ ordered o w k → n ≡ k

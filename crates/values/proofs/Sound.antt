@@ -1,13 +1,13 @@
 -- What is walked is a value's bytes: wherever the walk of a well-formed type ends, the bytes that it went over are those of a value of the
 -- type. Rests on the laws of numbers in a row and of bytes at a place.
 use mathlib.Core.Path.{_≡_, refl, sym, ap, _∙_}
-use mathlib.Core.Bool.{Bool, true, not, _||_}
+use mathlib.Core.Bool.{Bool, true}
 use mathlib.Core.List.{List, [], _∷_, append-nil}
 use Prim.Native.Nat.{ℕ, zero, suc, _+_, _*_, _≤_, _<_}
 use native.Mathlib.Omega.{arith}
 use borrow.Author.Tests.{leb-true, ltb-true}
-use lib.Dec.{leb, ltb, eqb}
-use lib.ListN.{length, getD, length-append}
+use lib.Dec.{leb, ltb}
+use lib.ListN.{length, length-append}
 use lib.Seq.{slice, length-slice}
 use Rattle.descriptor.specs.Codes.{Kind, kindOf, isArray}
 use Rattle.descriptor.specs.Tree.{Name, Fields, empty, items, pairs, text, dimensions, members, subtype, Tree, node, Forest, nil, cons, childCount, forestLength}
@@ -18,12 +18,12 @@ use Rattle.encoding.proofs.Slices.{bytes-slice}
 use Rattle.descriptor.specs.Width.{widthOf}
 use Rattle.flattened.specs.Order.{Order, numberAt}
 use Rattle.descriptor.specs.Limits.{lengthLimit}
-use Rattle.flattened.specs.Walk.{plainAt, scalarAt, textAt, sizesAt, sizesFit, product, arrayAt, repeat, walkFields, walk, walkAll}
+use Rattle.flattened.specs.Walk.{scalarAt, textAt, sizesAt, sizesFit, product, arrayAt, repeat, walkFields, walk, walkAll}
 use Rattle.values.specs.Value.{Value, numbers, characters, elements, parts, Values, none, also, count, AllBelow, Scalar, Fits, plain, enumeration, quantity, string, array, cluster, stamp, AllFit, without, element, EachFits, done, member, ordered, inOrder, flatten, flattenElements, flattenMembers}
 use Rattle.byteorder.specs.Reversal.{numberCount, numberWidth}
 use Rattle.values.proofs.Places.{Here, here-by, here-none, here-then}
 use Rattle.values.proofs.Numbers.{length-ordered, number-stands, numbersAt, length-numbersAt, length-inOrder, numbers-stand}
-use Rattle.values.proofs.Scalars.{scalarNumbers, fill-width, scalar-length, passes-scalar, enumeration-number, enumeration-scalar}
+use Rattle.values.proofs.Scalars.{scalarNumbers, fill-width, scalar-length, scalar-there, enumeration-number}
 use Rattle.values.proofs.Complete.{sizes-numbers, sizes-product}
 
 -- the bytes of a value of the type t stand in s from p to q
@@ -70,31 +70,30 @@ module _ (o : Order) (s : List ℕ) (b : Bytes s) where
 
   -- a scalar of a type that takes any
   plain-stands : (t : Tree) (c p : ℕ) → ((ns : List ℕ) → Scalar c ns → Fits t (numbers ns)) → ((ns : List ℕ) → flatten o t (numbers ns) ≡ inOrder o (numberWidth c) ns)
-      → Holds (λ q ts. Stands o s t p q) (plainAt c s p)
-  unfolding plainAt scalarAt
+      → Holds (λ q ts. Stands o s t p q) (scalarAt c s p true)
+  unfolding scalarAt
   plain-stands t c p fits bytes =
       let ns : List ℕ = scalarNumbers o s c p in
       holds-require (leb (p + widthOf c) (length s)) _ _ (λ room.
-      holds-require (not (eqb c 33) || leb (getD s p 0) 1) _ _ (λ test.
       found (record {
         value = numbers ns;
-        fits = fits ns (passes-scalar o s b p c test);
+        fits = fits ns (scalar-there o s b p c);
         here = rw bytes (scalar-stands c p (leb-true _ _ room));
         end = rw bytes (scalar-end c p);
-      })))
+      }))
 
   -- an enumeration's number
   item-stands : (c : ℕ) (xs : List (List ℕ)) (f : Forest) (m : Name) (p : ℕ) → c < 256 → kindOf c ≡ Kind.enumeration
-      → Holds (λ q ts. Stands o s (node c (items xs) f m) p q) (scalarAt c s p (ltb (numberAt o s p (widthOf c)) (length xs)) 23)
+      → Holds (λ q ts. Stands o s (node c (items xs) f m) p q) (scalarAt c s p (ltb (numberAt o s p (widthOf c)) (length xs)))
   unfolding scalarAt flatten
   item-stands c xs f m p h k =
       let n : ℕ = numberAt o s p (widthOf c) in
-      let one : scalarNumbers o s c p ≡ n ∷ [] = enumeration-number c h k o s b p in
+      let one : scalarNumbers o s c p ≡ n ∷ [] = enumeration-number c h k o s p in
       holds-require (leb (p + widthOf c) (length s)) _ _ (λ room.
       holds-require (ltb n (length xs)) _ _ (λ small.
       found (record {
         value = numbers (n ∷ []);
-        fits = enumeration (rw one at (enumeration-scalar c h k o s b p)) (ltb-true n (length xs) small);
+        fits = enumeration (rw one at (scalar-there o s b p c)) (ltb-true n (length xs) small);
         here = rw one at (scalar-stands c p (leb-true _ _ room));
         end = rw one at (scalar-end c p);
       })))

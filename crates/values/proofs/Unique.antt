@@ -10,14 +10,13 @@ use Rattle.flattened.specs.Order.{Order}
 use Rattle.values.specs.Value.{Value, numbers, characters, elements, parts, Values, also, count, AllBelow, Scalar, Fits, plain, enumeration, quantity, string, array, cluster, stamp, AllFit, without, element, EachFits, done, member, ordered, inOrder, flatten, flattenElements, flattenMembers}
 use Rattle.byteorder.specs.Reversal.{numberWidth}
 use Rattle.values.proofs.Numbers.{length-ordered, ordered-apart, inOrder-apart, below-less}
-use Rattle.values.proofs.Scalars.{scalar-bound}
 
 module _ (o : Order) where
   -- a scalar's numbers
   scalars-apart : (c : ℕ) (ns ks x y : List ℕ) → Scalar c ns → Scalar c ks → inOrder o (numberWidth c) ns ++ x ≡ inOrder o (numberWidth c) ks ++ y
       → (numbers ns ≡ numbers ks) × (x ≡ y)
   scalars-apart c ns ks x y h k e =
-      let r = inOrder-apart o (numberWidth c) ns ks x y (h .many ∙ sym (k .many)) (scalar-bound c ns h) (scalar-bound c ks k) e in
+      let r = inOrder-apart o (numberWidth c) ns ks x y (h .many ∙ sym (k .many)) (h .below) (k .below) e in
       (ap numbers (r .0), r .1)
 
   -- a string's characters

@@ -1,9 +1,7 @@
 -- What data is, from document 01, "How data is walked", apart from the walk: values, which of them a type has, and their bytes.
 use mathlib.Core.Path.{_≡_}
-use mathlib.Core.Bool.{cond}
 use mathlib.Core.List.{List, [], _∷_, _++_, foldr}
 use Prim.Native.Nat.{ℕ, suc, _*_, _^_, _<_}
-use lib.Dec.{eqb}
 use lib.ListN.{length}
 use Rattle.number.specs.Endian.{beBytes, leBytes}
 use Rattle.descriptor.specs.Tree.{Name, Pair, empty, items, pairs, text, dimensions, members, subtype, Tree, node, Forest, nil, cons}
@@ -11,7 +9,6 @@ use Rattle.descriptor.specs.Limits.{lengthLimit}
 use Rattle.descriptor.specs.Encoding.{Bytes}
 use Rattle.flattened.specs.Order.{Order, big, little}
 use Rattle.byteorder.specs.Reversal.{numberCount, numberWidth}
-use Rattle.descriptor.specs.Codes.{booleanCode}
 
 mutual
   pub data Value : Type 0 where
@@ -34,19 +31,15 @@ unfoldable pub count : Values → ℕ
 count none = 0
 count (also v vs) = suc (count vs)
 
--- "A Boolean's byte is 0 for false or 1 for true." Every other number is any that its bytes can say.
-unfoldable pub numberLimit : ℕ → ℕ
-numberLimit c = cond (eqb c booleanCode) 2 (256 ^ numberWidth c)
-
 -- each number of the list is below the limit
 unfoldable pub AllBelow : ℕ → List ℕ → Type 0
 AllBelow limit [] = Unit {0}
 AllBelow limit (n ∷ ns) = (n < limit) × AllBelow limit ns
 
--- the numbers of a scalar of the code c
+-- the numbers of a scalar of the code c: any that their bytes can say, a Boolean's too (document 02, CR 2)
 pub record Scalar (c : ℕ) (ns : List ℕ) : Type 0 where
   pub many : length ns ≡ numberCount c
-  pub below : AllBelow (numberLimit c) ns
+  pub below : AllBelow (256 ^ numberWidth c) ns
 
 mutual
   -- v is a value of the type t

@@ -33,6 +33,7 @@ fn main() {
     data::edges();
     records::old_faults();
     records::refusals();
+    records::lamp();
     stamps::worked();
     stamps::differences();
 }

@@ -111,9 +111,9 @@ pub any-kept : (r : Rule) (o : Order) (s : List ℕ) (w at n : ℕ) → Any ≡ 
 unfolding keeps
 any-kept r o s w at n e i h = sym (ap (λ (x : Rule). keeps x (numberAt o s (at + i * w) w)) e)
 
-pub low-kept : (r : Rule) (o : Order) (s : List ℕ) (w at n limit number : ℕ) → Below limit number ≡ r → EachLow limit o s w w at n → EachKeeps r o s w at n
+pub low-kept : (r : Rule) (o : Order) (s : List ℕ) (w at n limit : ℕ) → Below limit ≡ r → EachLow limit o s w w at n → EachKeeps r o s w at n
 unfolding keeps
-low-kept r o s w at n limit number e low i h = sym (ap (λ (x : Rule). keeps x (numberAt o s (at + i * w) w)) e) ∙ lt-ltb _ limit (low i h)
+low-kept r o s w at n limit e low i h = sym (ap (λ (x : Rule). keeps x (numberAt o s (at + i * w) w)) e) ∙ lt-ltb _ limit (low i h)
 
 -- the bytes and tokens of elements that are passed
 pub record PassedWithin (s : List ℕ) (at : ℕ) (r : Passed) : Type 0 where

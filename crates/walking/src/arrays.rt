@@ -64,7 +64,7 @@ fn kept(d: &[u8], p: usize, w: usize, n: usize, s: &[u8], at: usize, o: Order) -
     let rule = rule_of(d, p);
     match rule {
         Rule::Any => n,
-        Rule::Below(limit, number) => low(limit, s, at, w, w, n, o),
+        Rule::Below(limit) => low(limit, s, at, w, w, n, o),
     }
 }
 

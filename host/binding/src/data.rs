@@ -1,5 +1,5 @@
 //! The questions about data under a descriptor. Each judges the descriptor
-//! (1 to 12, input 1), then the whole data (20 to 25, input 3), then the rest.
+//! (1 to 12, input 1), then the whole data (20 to 23 or 25, input 3), then the rest.
 
 use crate::raw::{self, Answer, Part, Value};
 
@@ -33,8 +33,9 @@ pub fn view(descriptor: &[u8], data: &[u8], path: &[u32]) -> Part {
     }
 }
 
-/// Reads the number at the end of a path. It refuses what a view does, then 31
-/// with input 4 where there is no single number; a refusal has no value.
+/// Reads the number at the end of a path; a Boolean's byte is true but for 00. It
+/// refuses what a view does, then 31 with input 4 where there is no single number; a
+/// refusal has no value.
 pub fn read_value(descriptor: &[u8], data: &[u8], path: &[u32]) -> Value {
     // SAFETY: each pointer and length are those of one live slice.
     unsafe {

@@ -54,7 +54,8 @@ pub struct Part {
 
 /// What a value read returns. The kind is 0 for no value, 1 for an unsigned
 /// number, 2 for a signed one (the bits are its 64-bit two's complement), 3 for
-/// a single (the low 32 bits), 4 for a double and 5 for a flag (0 or 1).
+/// a single (the low 32 bits), 4 for a double and 5 for a flag (1 for any byte but
+/// 00, else 0).
 #[repr(C)]
 #[derive(Clone, Copy, Debug, PartialEq, Eq)]
 pub struct Value {

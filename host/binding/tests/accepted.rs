@@ -9,6 +9,9 @@ use kerbcanopy::accepted::{Descriptor, Refusal, Value};
 const RIG: &[u8] = b"\x00\x14\x00\x50\x00\x02\x00\x06\x00\x02\x01t\x00\x08\x00\x07\x02id\x00";
 const READER: &[u8] = b"\x00\x0E\x00\x50\x00\x01\x00\x08\x00\x07\x02id\x00";
 const DATA: &[u8] = &[0, 0x19, 0, 0, 0, 9];
+/// A rig whose second member is a Boolean, and a reader of that.
+const LAMP: &[u8] = b"\x00\x16\x00\x50\x00\x02\x00\x08\x00\x07\x02id\x00\x00\x08\x00\x21\x03lit";
+const LIT: &[u8] = b"\x00\x0E\x00\x50\x00\x01\x00\x08\x00\x21\x03lit";
 
 fn refusal(number: u32, input: u32, place: u32) -> Refusal {
     Refusal {
@@ -68,7 +71,7 @@ fn data_is_bound_to_its_descriptor() -> Result<(), Refusal> {
 
 #[test]
 fn every_kind_of_value() -> Result<(), Refusal> {
-    let cases: [(u8, &[u8], Value); 8] = [
+    let cases: [(u8, &[u8], Value); 10] = [
         (0x01, &[0x80], Value::Signed(-128)),
         (0x04, &[0xFF; 8], Value::Signed(-1)),
         (0x05, &[0x80], Value::Unsigned(128)),
@@ -76,6 +79,8 @@ fn every_kind_of_value() -> Result<(), Refusal> {
         (0x09, &[0x41, 0xA4, 0, 0], Value::Single(20.5)),
         (0x0A, &[0xC0, 0, 0, 0, 0, 0, 0, 0], Value::Double(-2.0)),
         (0x21, &[1], Value::Flag(true)),
+        (0x21, &[2], Value::Flag(true)),
+        (0x21, &[0xFF], Value::Flag(true)),
         (0x21, &[0], Value::Flag(false)),
     ];
     for (code, data, value) in cases {
@@ -86,6 +91,23 @@ fn every_kind_of_value() -> Result<(), Refusal> {
         panic!("code 09 is a single");
     };
     assert_eq!(single.to_bits(), 0x7F80_0001);
+    Ok(())
+}
+
+/// Document 02, CR 2: whatever a Boolean's byte is, it is handed on as it came.
+#[test]
+fn a_boolean_keeps_its_byte() -> Result<(), Refusal> {
+    let lamp = Descriptor::new(LAMP)?;
+    let lit = Descriptor::new(LIT)?;
+    for byte in 0..=u8::MAX {
+        let bytes = [0, 0, 0, 9, byte];
+        let data = lamp.data(&bytes)?;
+        assert_eq!(data.value(&[1])?, Value::Flag(byte != 0));
+        assert_eq!(data.view(&[1])?, [byte]);
+        assert_eq!(data.little_endian(), [9, 0, 0, 0, byte]);
+        assert_eq!(lamp.big_endian(&data.little_endian())?, bytes);
+        assert_eq!(data.read(&lit)?, [byte]);
+    }
     Ok(())
 }
 

@@ -54,20 +54,20 @@ fn counted(count: usize, bytes: &[u8]) -> Vec<u8> {
     [&(count as u32).to_be_bytes()[..], bytes].concat()
 }
 
+/// Document 02, CR 2: any byte will do.
 #[test]
-fn a_boolean_at_fault_is_found_wherever_it_stands() {
+fn no_byte_of_a_boolean_is_at_fault() {
     let descriptor = array(scalar(0x21));
     for count in (1..70).chain([255, 256, 1000]) {
-        let data = counted(count, &vec![1; count]);
+        let bytes: Vec<u8> = (0..count).map(|index| !index as u8).collect();
+        let mut data = counted(count, &bytes);
         assert_eq!(check_data(&descriptor, &data), accepted(1 + count));
-        for fault in 0..count {
-            let mut data = data.clone();
-            data[4 + fault] = 2;
-            assert_eq!(check_data(&descriptor, &data), refused(24, 4 + fault));
-            // One behind it changes nothing.
-            *data.last_mut().unwrap() = 0xFF;
-            assert_eq!(check_data(&descriptor, &data), refused(24, 4 + fault));
-        }
+        assert_eq!(
+            check_data(&descriptor, &data[..3 + count]),
+            refused(21, 3 + count)
+        );
+        data.push(0xFF);
+        assert_eq!(check_data(&descriptor, &data), refused(25, 4 + count));
     }
 }
 
@@ -125,16 +125,17 @@ fn elements_with_a_string_are_cut_at_every_byte() {
     assert_eq!(check_data(&descriptor, &data), refused(25, behind));
 }
 
-/// Beside a string a Boolean is judged too.
+/// Beside a string an enumeration is judged too, and a Boolean is not.
 #[test]
-fn a_boolean_beside_a_string_is_judged() {
-    let descriptor = array(cluster(&[string(), scalar(0x21)]));
-    let element = [&counted(3, b"abc")[..], &[1]].concat();
+fn an_enumeration_beside_a_string_is_judged() {
+    let mode = described(0x15, &[0, 2, 0, 0]);
+    let descriptor = array(cluster(&[string(), scalar(0x21), mode]));
+    let element = [&counted(3, b"abc")[..], &[0xFF, 1]].concat();
     for fault in 0..20 {
         let mut data = counted(20, &element.repeat(20));
-        assert_eq!(check_data(&descriptor, &data), accepted(41));
-        let place = 4 + 8 * fault + 7;
+        assert_eq!(check_data(&descriptor, &data), accepted(61));
+        let place = 4 + 9 * fault + 8;
         data[place] = 2;
-        assert_eq!(check_data(&descriptor, &data), refused(24, place));
+        assert_eq!(check_data(&descriptor, &data), refused(23, place));
     }
 }

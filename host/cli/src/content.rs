@@ -9,10 +9,15 @@ const CHARACTERS: usize = 60;
 /// How many elements of an array are listed where not all are asked for.
 pub const ELEMENTS: u64 = 8;
 
-/// A number with its item where it is an enumeration's.
+/// A number with its item where it is an enumeration's, a Boolean with its byte
+/// where that is neither 00 nor 01.
 pub fn number(descriptor: &Descriptor, row: usize, bytes: &[u8]) -> String {
     let own = descriptor.own(row);
-    let text = value::scalar(own, descriptor.rows[row].code, bytes);
+    let code = descriptor.rows[row].code;
+    let text = value::scalar(own, code, bytes);
+    if let (0x21, [byte @ 2..=0xFF]) = (code, bytes) {
+        return format!("{text} (byte {byte:02X})");
+    }
     let number = kerbcanopy::read_value(own, bytes, &[]).bits;
     match descriptor.items(row).get(number as usize) {
         Some(item) => format!("{text} {}", quoted(item)),
@@ -69,5 +74,16 @@ mod tests {
         assert_eq!(number(&modes, 0, &[2]), "2 \"off\"");
         let plain = Descriptor::of(b"\x00\x04\x00\x05").expect("it is accepted");
         assert_eq!(number(&plain, 0, &[2]), "2");
+    }
+
+    #[test]
+    fn a_byte_over_1_stands_beside_its_flag() {
+        let flag = Descriptor::of(b"\x00\x04\x00\x21").expect("it is accepted");
+        assert_eq!(number(&flag, 0, &[0]), "false");
+        assert_eq!(number(&flag, 0, &[1]), "true");
+        for byte in 2..=u8::MAX {
+            let text = number(&flag, 0, &[byte]);
+            assert_eq!(text, format!("true (byte {byte:02X})"));
+        }
     }
 }

@@ -8,7 +8,7 @@ use crate::words::{counted, quoted};
 /// How many names are listed.
 const NAMES: usize = 12;
 
-/// Of the piece of this row that starts at the place, refused with 21 to 24.
+/// Of the piece of this row that starts at the place, refused with 21 to 23.
 pub fn of_piece(
     types: &Descriptor,
     row: usize,
@@ -42,7 +42,7 @@ pub fn of_piece(
             let number = numbers(there, width, order)[0];
             format!("number {number} of {}", counted(dimensions, "item"))
         }
-        _ => format!("byte {:02X}", there.first().copied().unwrap_or_default()),
+        _ => String::new(),
     }
 }
 
@@ -124,7 +124,6 @@ mod tests {
         let types = Descriptor::of(modes).expect("it is accepted");
         let little = of_piece(&types, 0, b"\x02\0", 0, 23, Order::Little);
         assert_eq!(little, "number 2 of 2 items");
-        assert_eq!(facts(b"\x00\x04\x00\x21", b"\x02"), "byte 02");
     }
 
     #[test]

@@ -109,6 +109,8 @@ The path stands first: the steps that value and view take. The first elements of
 an array are listed, or every one with --all. A time stamp is a date and a time in
 universal time, by the Gregorian calendar in every year (year 0 comes before year
 1) and with 86,400 seconds in every day; its fraction has all its digits, up to 64.
+A Boolean is true for any byte but 00; here and in explain, a byte that is neither
+00 nor 01 is shown beside it.
 ",
     ),
     (

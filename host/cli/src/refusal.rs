@@ -143,7 +143,7 @@ impl Refusal {
             return;
         };
         match self.answer.number {
-            20..=25 => {
+            20..=23 | 25 => {
                 let data = lent.data.map_or(&[][..], |data| &data.bytes);
                 self.of_data(&first, data, lent.order);
             }
@@ -167,7 +167,7 @@ impl Refusal {
         }
     }
 
-    /// 20 to 25: the piece at fault, or the bytes behind the last.
+    /// 20 to 23 and 25: the piece at fault, or the bytes behind the last.
     fn of_data(&mut self, types: &Descriptor, data: &[u8], order: Order) {
         let Answer { number, place, .. } = self.answer;
         let walked = tokens::walk(types, data, self.answer, order, 0);

@@ -69,7 +69,7 @@ pub fn walk(
         data,
         order,
         most,
-        stop: (21..=24)
+        stop: (21..=23)
             .contains(&answer.number)
             .then_some(answer.place as usize),
         widths: rows.clone().map(|row| descriptor.width(row)).collect(),

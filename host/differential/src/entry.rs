@@ -56,14 +56,14 @@ impl Entry {
         )
     }
 
-    /// Whether document 01, or request 1 of document 02, lets the entry answer this
-    /// number for this input.
+    /// Whether document 01, with requests 1 and 2 of document 02, lets the entry
+    /// answer this number for this input.
     pub fn can_answer(self, number: u32, input: u32) -> bool {
         match (number, input) {
             (0, 0) => true,
             (1..=12, 1) => self.reads_descriptors(),
             (1..=12, 2) => self.reads_two(),
-            (20..=25, 3) => self.reads_data(),
+            (20..=23 | 25, 3) => self.reads_data(),
             (30, 4) => matches!(self, Entry::View | Entry::ReadValue),
             (31, 4) => self == Entry::ReadValue,
             (32, 4) => self == Entry::StampDifference,

@@ -63,7 +63,7 @@ const fn known(
 
 /// The refusals of descriptors, and of data.
 const OF_DESCRIPTORS: [u32; 12] = [1, 2, 3, 4, 5, 6, 7, 8, 9, 10, 11, 12];
-const OF_DATA: [u32; 6] = [20, 21, 22, 23, 24, 25];
+const OF_DATA: [u32; 5] = [20, 21, 22, 23, 25];
 
 /// Every kind, in the order of the enum.
 pub const KINDS: [Known; 23] = {
@@ -110,7 +110,7 @@ pub const KINDS: [Known; 23] = {
             Kind::DataLimit,
             Data,
             ["limits", "limits of data and their neighbours"],
-            &[0, 21, 22, 23, 24, 25],
+            &[0, 21, 22, 23, 25],
         ),
         known(Kind::Flattened, Data, ["filled", "well-formed data"], &[0]),
         known(
@@ -123,7 +123,7 @@ pub const KINDS: [Known; 23] = {
             Kind::DamagedData,
             Data,
             ["damaged", "damaged data"],
-            &[0, 21, 22, 23, 24, 25],
+            &[0, 21, 22, 23, 25],
         ),
         known(
             Kind::StrayData,
@@ -165,7 +165,7 @@ pub const KINDS: [Known; 23] = {
             Kind::DamagedRecord,
             Record,
             ["damaged", "damaged records"],
-            &[0, 1, 2, 3, 4, 5, 6, 7, 8, 9, 10, 11, 12, 21, 22, 23, 24, 25],
+            &[0, 1, 2, 3, 4, 5, 6, 7, 8, 9, 10, 11, 12, 21, 22, 23, 25],
         ),
         known(
             Kind::NoRecord,

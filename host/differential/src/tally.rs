@@ -1,8 +1,9 @@
 //! Counts what the cases met, and says whether anything of document 01, or of
-//! request 1 of document 02, was met too seldom.
+//! requests 1 and 2 of document 02, was met too seldom.
 
 mod data;
 mod descriptor;
+mod flags;
 mod interval;
 mod lines;
 mod met;
@@ -29,6 +30,7 @@ pub struct Tally {
     comparisons: Table,
     records: Table,
     stamps: Table,
+    flags: Table,
     lines: Lines,
 }
 
@@ -57,6 +59,7 @@ impl Tally {
             comparisons,
             records: record::reasons(),
             stamps: interval::standings(),
+            flags: flags::bytes(),
             lines: Lines::new(),
         }
     }
@@ -70,7 +73,7 @@ impl Tally {
         self.lines.add(&other.lines);
     }
 
-    fn tables(&self) -> [&Table; 12] {
+    fn tables(&self) -> [&Table; 13] {
         let [descriptors, data, records, intervals] = &self.kinds;
         [
             &self.answers,
@@ -85,10 +88,11 @@ impl Tally {
             &self.comparisons,
             &self.records,
             &self.stamps,
+            &self.flags,
         ]
     }
 
-    fn tables_mut(&mut self) -> [&mut Table; 12] {
+    fn tables_mut(&mut self) -> [&mut Table; 13] {
         let [descriptors, data, records, intervals] = &mut self.kinds;
         [
             &mut self.answers,
@@ -103,6 +107,7 @@ impl Tally {
             &mut self.comparisons,
             &mut self.records,
             &mut self.stamps,
+            &mut self.flags,
         ]
     }
 

@@ -65,6 +65,7 @@ fn what_was_met_is_printed() {
         "compared, differing in",
         "because",
         "stamps ",
+        "byte of a Boolean",
         "a number's value",
     ] {
         let table = lines.iter().any(|line| line.starts_with(title));

@@ -12,7 +12,7 @@ use crate::{Answer, MOST_ROWS, accepted, refused};
 pub const MOST_DATA: usize = 65536;
 
 /// Walks data by its descriptor. Accepted: the place is the number of pieces.
-/// Refused: 1 to 12 with input 1, or 20 to 25 with input 3.
+/// Refused: 1 to 12 with input 1, or 20 to 23 or 25 with input 3.
 pub fn check_data(descriptor: &[u8], data: &[u8]) -> Answer {
     ask(descriptor, |rows| judge_data(rows, data, Big)).map_or_else(|refusal| refusal, accepted)
 }
@@ -162,8 +162,8 @@ impl<O: Order, N: Notes> Cursor for Check<'_, O, N> {
             [Op::Numbers(_)] => {}
             _ if whole < FEW => return Ok(count),
             _ => {
-                if let Some(refusal) = first_too_high(self.order, ops, element.width, block) {
-                    return refuse(refusal.number, self.place() + refusal.place);
+                if let Some(place) = first_too_high(self.order, ops, element.width, block) {
+                    return refuse(23, self.place() + place);
                 }
             }
         }
@@ -195,7 +195,7 @@ impl<O: Order, N> Check<'_, O, N> {
         }
     }
 
-    /// An enumeration or a Boolean: 21, then 23 or 24.
+    /// An enumeration: 21, then 23.
     #[inline(always)]
     fn number<const WIDTH: usize>(
         &mut self,
@@ -206,7 +206,7 @@ impl<O: Order, N> Check<'_, O, N> {
             return self.refuse(21);
         };
         if read(*bytes) > u32::from(limit.most) {
-            return self.refuse(u32::from(limit.refusal));
+            return self.refuse(23);
         }
         self.rest = rest;
         self.pieces += 1;

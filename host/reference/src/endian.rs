@@ -13,7 +13,7 @@ use crate::tour::{Cursor, FEW, walk_rows};
 use crate::{Answer, accepted, room};
 
 /// Writes the little-endian form. Accepted: the place is the length written,
-/// and `out` beyond it keeps its bytes. Refused: 1 to 12 with input 1, 20 to 25
+/// and `out` beyond it keeps its bytes. Refused: 1 to 12 with input 1, 20 to 23 or 25
 /// with input 3, or 50 with input 4 and the length needed; nothing is written.
 pub fn to_little_endian(descriptor: &[u8], data: &[u8], out: &mut [u8]) -> Answer {
     write(descriptor, data, out, Big)

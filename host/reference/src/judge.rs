@@ -1,35 +1,33 @@
-//! Enumerations and Booleans in arrays of a fixed width, many at a time.
+//! Enumerations in arrays of a fixed width, many at a time.
 
 use crate::order::Order;
 use crate::plan::Op;
-use crate::walk::Refusal;
 
 /// How much is judged before a refusal is looked for, in bytes: enough for long
 /// loops, little enough to stay near.
 const STRETCH: usize = 4096;
 
-/// The first number that is too high in a block of whole elements: 23 or 24,
-/// the place counted from the block's start.
+/// The place of the first number that is too high in a block of whole elements,
+/// counted from the block's start.
 #[inline(never)]
 pub(crate) fn first_too_high(
     order: impl Order,
     ops: &[Op],
     width: u16,
     block: &[u8],
-) -> Option<Refusal> {
+) -> Option<usize> {
     let width = usize::from(width);
     let stretch = STRETCH.div_ceil(width) * width;
     let mut parts = block.chunks(stretch).enumerate();
     parts.find_map(|(index, part)| {
-        let mut refusal = in_stretch(order, ops, width, part)?;
-        refusal.place += index * stretch;
-        Some(refusal)
+        let place = in_stretch(order, ops, width, part)?;
+        Some(index * stretch + place)
     })
 }
 
 /// Judges one number of the element after the other. Once one is refused, only
 /// the elements before it can still hold an earlier one.
-fn in_stretch(order: impl Order, ops: &[Op], width: usize, mut part: &[u8]) -> Option<Refusal> {
+fn in_stretch(order: impl Order, ops: &[Op], width: usize, mut part: &[u8]) -> Option<usize> {
     let mut first = None;
     let mut offset = 0;
     for op in ops {
@@ -39,12 +37,9 @@ fn in_stretch(order: impl Order, ops: &[Op], width: usize, mut part: &[u8]) -> O
             width,
             offset,
         };
-        if let Some((number, index)) = column.search(order, op) {
+        if let Some(index) = column.search(order, op) {
             part = &part[..index * width];
-            first = Some(Refusal {
-                number: u32::from(number),
-                place: index * width + offset,
-            });
+            first = Some(index * width + offset);
         }
         offset += usize::from(bytes);
     }
@@ -62,22 +57,21 @@ struct Column<'a> {
 }
 
 impl Column<'_> {
-    /// The refusal and the element of the first number that is too high.
+    /// The element of the first number that is too high.
     #[inline(always)]
-    fn search(self, order: impl Order, op: &Op) -> Option<(u8, usize)> {
-        let (limit, index) = match op {
+    fn search(self, order: impl Order, op: &Op) -> Option<usize> {
+        match op {
             Op::Byte(limit) => {
                 let most = u8::try_from(limit.most).unwrap_or(u8::MAX);
-                (limit, self.find(|[byte]| byte > most))
+                self.find(|[byte]| byte > most)
             }
-            Op::Half(limit) => (limit, self.find(|bytes| order.half(bytes) > limit.most)),
+            Op::Half(limit) => self.find(|bytes| order.half(bytes) > limit.most),
             Op::Word(limit) => {
                 let most = u32::from(limit.most);
-                (limit, self.find(|bytes| order.word(bytes) > most))
+                self.find(|bytes| order.word(bytes) > most)
             }
-            Op::Numbers(_) | Op::Text | Op::Array(..) => return None,
-        };
-        Some((limit.refusal, index?))
+            Op::Numbers(_) | Op::Text | Op::Array(..) => None,
+        }
     }
 
     /// The first element whose number is too high. Numbers side by side are

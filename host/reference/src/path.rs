@@ -21,7 +21,8 @@ pub struct Part {
 
 /// What a value read returns. The kind is 0 for no value, 1 for an unsigned
 /// number, 2 for a signed one (the bits are its 64-bit two's complement), 3 for
-/// a single, 4 for a double (their exact bits) and 5 for a flag (0 or 1).
+/// a single, 4 for a double (their exact bits) and 5 for a flag (0 for a byte of
+/// 0, else 1).
 #[derive(Clone, Copy, Debug, Default, PartialEq, Eq)]
 pub struct Value {
     pub answer: Answer,
@@ -31,7 +32,7 @@ pub struct Value {
 
 /// Finds a part of the data: each step is a member number in a cluster, a flat
 /// element number in an array or 0 in a time stamp. Accepted: the place is 0.
-/// Refused: 1 to 12 with input 1, 20 to 25 with input 3, or 30 with input 4.
+/// Refused: 1 to 12 with input 1, 20 to 23 or 25 with input 3, or 30 with input 4.
 pub fn view(descriptor: &[u8], data: &[u8], path: &[u32]) -> Part {
     let found = ask(descriptor, |rows| {
         judge_data(rows, data, Big)?;
@@ -89,11 +90,13 @@ fn value(code: u8, bytes: &[u8]) -> Result<(u32, u64), Refusal> {
         _ => return refuse(31, 0),
     };
     let bits = (bytes.iter()).fold(0, |bits, &byte| bits << 8 | u64::from(byte));
-    if kind != 2 {
-        return Ok((kind, bits));
-    }
     let unused = 64 - 8 * bytes.len();
-    Ok((kind, ((bits << unused) as i64 >> unused) as u64))
+    let bits = match kind {
+        2 => ((bits << unused) as i64 >> unused) as u64,
+        5 => u64::from(bits != 0),
+        _ => bits,
+    };
+    Ok((kind, bits))
 }
 
 /// A row, and where the part of the data that it describes starts.

@@ -34,10 +34,9 @@ pub(crate) struct Numbers {
     pub(crate) row: u16,
 }
 
-/// The highest number, and the refusal of a higher one.
+/// The highest number of an enumeration; a higher one is refused with 23.
 #[derive(Clone, Copy)]
 pub(crate) struct Limit {
-    pub(crate) refusal: u8,
     pub(crate) most: u16,
 }
 
@@ -62,7 +61,7 @@ pub(crate) enum Join {
 }
 
 impl Op {
-    /// The step of a Boolean or an enumeration.
+    /// The step of an enumeration.
     fn limited(width: u8, limit: Limit) -> Op {
         match width {
             1 => Op::Byte(limit),
@@ -97,19 +96,11 @@ impl Numbers {
 }
 
 impl Limit {
-    /// That of a Boolean's or an enumeration's row.
+    /// That of an enumeration's row.
     #[inline(always)]
     pub(crate) fn of(rows: Rows, row: usize) -> Limit {
-        match rows.code(row) {
-            0x21 => Limit {
-                refusal: 24,
-                most: 1,
-            },
-            _ => Limit {
-                refusal: 23,
-                most: rows.count(row) - 1,
-            },
-        }
+        let most = rows.count(row) - 1;
+        Limit { most }
     }
 }
 

@@ -14,7 +14,7 @@ use crate::{Answer, MOST_ROWS, accepted, refused, room};
 /// Writes, for each of the reader's members in order, the bytes of the one member
 /// of the writer that has its name and an equal type. Accepted: the place is the
 /// length written, and `out` beyond it keeps its bytes. Refused, and nothing is
-/// written: 1 to 12 with input 1 for the writer or 2 for the reader, 20 to 25 with
+/// written: 1 to 12 with input 1 for the writer or 2 for the reader, 20 to 23 or 25 with
 /// input 3; then 40 with input 2, 41 with input 1, 42 to 44 with input 2 and the
 /// reader's member as place; last 50 with input 4 and the length needed.
 pub fn read_record(writer: &[u8], reader: &[u8], data: &[u8], out: &mut [u8]) -> Answer {

@@ -5,7 +5,7 @@
 pub(crate) enum Act {
     /// A scalar that can't be refused.
     Plain,
-    /// An enumeration or a Boolean, which may be too high.
+    /// An enumeration, which may be too high.
     Limited,
     Text,
     Array,
@@ -28,7 +28,7 @@ const fn shape(act: Act, width: u8, unit: u8) -> Shape {
 
 const fn shape_of(code: usize) -> Shape {
     match code {
-        0x01 | 0x05 => shape(Act::Plain, 1, 1),
+        0x01 | 0x05 | 0x21 => shape(Act::Plain, 1, 1),
         0x02 | 0x06 => shape(Act::Plain, 2, 2),
         0x03 | 0x07 | 0x09 | 0x19 => shape(Act::Plain, 4, 4),
         0x04 | 0x08 | 0x0A | 0x1A => shape(Act::Plain, 8, 8),
@@ -36,7 +36,7 @@ const fn shape_of(code: usize) -> Shape {
         0x0C | 0x1C => shape(Act::Plain, 8, 4),
         0x0D | 0x1D => shape(Act::Plain, 16, 8),
         0x0E | 0x1E => shape(Act::Plain, 32, 16),
-        0x15 | 0x21 => shape(Act::Limited, 1, 1),
+        0x15 => shape(Act::Limited, 1, 1),
         0x16 => shape(Act::Limited, 2, 2),
         0x17 => shape(Act::Limited, 4, 4),
         0x30 => shape(Act::Text, 0, 0),

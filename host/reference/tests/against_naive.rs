@@ -135,7 +135,7 @@ fn small_descriptors_and_data() {
         spoil(&mut data, &mut random);
         answers[compare(&of, &descriptor, &data, 4, &mut random) as usize] += 1;
     }
-    for number in [0, 21, 22, 23, 24, 25] {
+    for number in [0, 21, 22, 23, 25] {
         assert!(answers[number] > CASES / 2000, "{number}: {answers:?}");
     }
 }
@@ -163,7 +163,7 @@ fn long_arrays() {
         spoil(&mut data, &mut random);
         answers[compare(&of, &descriptor, &data, sizes, &mut random) as usize] += 1;
     }
-    for number in [0, 20, 21, 23, 24] {
+    for number in [0, 20, 21, 23] {
         assert!(answers[number] > 0, "{number}: {answers:?}");
     }
 }

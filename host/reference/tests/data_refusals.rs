@@ -242,41 +242,68 @@ fn number_23_at_every_place_of_an_array() {
 }
 
 #[test]
-fn number_24_booleans() {
-    for byte in 2..=255 {
-        refused(&plain(0x21), &[byte], 24, 0);
-        refused(&array(1, &plain(0x21)), &counted(3, &[1, byte]), 24, 5);
-    }
-    let many = [0, 1].repeat(6000);
-    let bytes = array(1, &plain(0x21));
-    accepted(&bytes, &counted(12000, &many), 12001);
-    for place in [0, 1, 4095, 4096, 4097, 11999] {
-        let mut data = counted(12000, &many);
-        data[4 + place] |= 0x80;
-        refused(&bytes, &data, 24, 4 + place as u32);
-        data[4 + 11999] = 2;
-        refused(&bytes, &data, 24, 4 + place as u32);
+fn booleans_of_every_byte() {
+    let many = array(1, &plain(0x21));
+    for byte in 0..=255 {
+        let flag = (5, u64::from(byte != 0));
+        accepted(&plain(0x21), &[byte], 1);
+        assert_eq!(value(&plain(0x21), &[byte], &[]), flag);
+        let data = counted(3, &[0, byte, 1]);
+        accepted(&many, &data, 4);
+        assert_eq!(value(&many, &data, &[1]), flag);
+        assert_eq!(part(&many, &data, &[1]), (5, 1));
+        refused(&many, &data[..6], 21, 6);
+        refused(&many, &[&data[..], &[byte]].concat(), 25, 7);
     }
 }
 
 #[test]
-fn numbers_23_and_24_in_the_order_of_the_data() {
-    let members = [plain(0x02), plain(0x21), enumeration(0x16, 3), plain(0x21)];
+fn booleans_keep_their_bytes() {
+    let pair = cluster(&[plain(0x21), plain(0x06)]);
+    for (element, width, pieces) in [(plain(0x21), 1, 1), (pair, 3, 2)] {
+        let bytes = array(1, &element);
+        for count in [1, 3, 4, 256, 12000] {
+            let mut elements = vec![7; count * width];
+            for (index, element) in elements.chunks_mut(width).enumerate() {
+                element[0] = index as u8;
+            }
+            let data = counted(count as u32, &elements);
+            accepted(&bytes, &data, (1 + count * pieces) as u32);
+            let little = [&(count as u32).to_le_bytes(), &elements[..]].concat();
+            let mut out = vec![0xA5; data.len()];
+            let written = answer(0, 0, data.len() as u32);
+            assert_eq!(to_little_endian(&bytes, &data, &mut out), written);
+            assert!(out == little);
+            assert_eq!(from_little_endian(&bytes, &little, &mut out), written);
+            assert!(out == data);
+        }
+    }
+}
+
+#[test]
+fn number_23_in_the_order_of_the_data() {
+    let members = [
+        plain(0x02),
+        enumeration(0x15, 2),
+        enumeration(0x16, 3),
+        plain(0x21),
+        enumeration(0x15, 2),
+    ];
     let bytes = array(1, &cluster(&members));
     for count in [1, 2, 3, 4, 9, 3000] {
-        let good = counted(count as u32, &[0xFF, 0xFF, 1, 0, 2, 0].repeat(count));
-        accepted(&bytes, &good, 4 * count as u32 + 1);
+        let good = counted(count as u32, &[0xFF, 0xFF, 1, 0, 2, 0xFF, 0].repeat(count));
+        accepted(&bytes, &good, 5 * count as u32 + 1);
         for element in [0, count / 2, count - 1] {
-            let start = 4 + 6 * element;
+            let start = 4 + 7 * element;
             let mut data = good.clone();
             data[good.len() - 1] = 2;
-            refused(&bytes, &data, 24, good.len() as u32 - 1);
+            refused(&bytes, &data, 23, good.len() as u32 - 1);
             data[start + 4] = 3;
             refused(&bytes, &data, 23, start as u32 + 3);
             data[start + 2] = 2;
-            refused(&bytes, &data, 24, start as u32 + 2);
+            refused(&bytes, &data, 23, start as u32 + 2);
             data.truncate(start + 3);
-            refused(&bytes, &data, 24, start as u32 + 2);
+            refused(&bytes, &data, 23, start as u32 + 2);
             data.truncate(start + 2);
             refused(&bytes, &data, 21, start as u32 + 2);
         }
@@ -289,7 +316,8 @@ fn number_25_bytes_left_over() {
     refused(&array(1, &plain(0x02)), &counted(1, &[0, 0, 0, 0]), 25, 6);
     refused(&text(), &counted(1, &[65, 66]), 25, 5);
     refused(&array(1, &text()), &counted(0, &[0]), 25, 4);
-    refused(&plain(0x21), &[2, 0], 24, 0);
+    refused(&plain(0x21), &[2, 0], 25, 1);
+    refused(&enumeration(0x15, 2), &[2, 0], 23, 0);
 }
 
 #[test]
@@ -314,7 +342,7 @@ fn little_endian_refusals_read_words_reversed() {
     assert_eq!(back(&bytes, &good), answer(0, 0, 8));
     assert_eq!(back(&bytes, &[2, 0, 0, 0, 0, 0, 0, 0, 0]), answer(21, 3, 8));
     assert_eq!(back(&bytes, &[1, 0, 0, 0, 0, 0, 0, 2]), answer(23, 3, 4));
-    assert_eq!(back(&plain(0x21), &[2]), answer(24, 3, 0));
+    assert_eq!(back(&plain(0x21), &[2]), answer(0, 0, 1));
     assert_eq!(
         back(&array(1, &plain(0x21)), &[0, 0, 0, 0x80]),
         answer(22, 3, 0)
@@ -564,7 +592,7 @@ fn the_longest_data_is_reversed_whole() {
 #[test]
 fn arrays_at_every_second_level() {
     let inner = |element: &[u8]| cluster(&[plain(0x05), array(1, element)]);
-    let deepest = inner(&inner(&inner(&plain(0x21))));
+    let deepest = inner(&inner(&inner(&enumeration(0x15, 2))));
     let bytes = array(1, &deepest);
     let mut data = counted(2, &[1, 0]);
     for _ in 0..3 {
@@ -574,13 +602,13 @@ fn arrays_at_every_second_level() {
         );
     }
     accepted(&bytes, &data, 15);
-    assert_eq!(value(&bytes, &data, &[0, 1, 0, 1, 0, 1, 1]), (5, 0));
+    assert_eq!(value(&bytes, &data, &[0, 1, 0, 1, 0, 1, 1]), (1, 0));
     assert_eq!(part(&bytes, &data, &[0, 1, 0, 1, 0, 1]), (15, 6));
     assert_eq!(part(&bytes, &data, &[0, 1, 1]), (26, 5));
     path_refused(&bytes, &data, &[0, 1, 0, 1, 0, 1, 1, 0], 7);
     path_refused(&bytes, &data, &[1, 1, 0], 2);
     data[20] = 2;
-    refused(&bytes, &data, 24, 20);
+    refused(&bytes, &data, 23, 20);
 }
 
 #[test]
@@ -596,10 +624,10 @@ fn the_widest_clusters() {
     accepted(&bytes, &data, 2033);
     refused(&bytes, &data[..65027], 21, 64996);
     assert_eq!(part(&bytes, &data, &[7, 253]), (64996, 32));
-    let mut odd = [vec![plain(0x21)], members].concat();
-    odd.truncate(254);
-    let bytes = array(1, &cluster(&odd));
-    let data = counted(8, &[1; 8 * 8097]);
-    accepted(&bytes, &data, 2033);
-    assert_eq!(part(&bytes, &data, &[7, 253]), (64748, 32));
+    for odd in [plain(0x21), enumeration(0x15, 2)] {
+        let bytes = array(1, &cluster(&[&[odd], &members[2..]].concat()));
+        let data = counted(8, &[1; 8 * 8097]);
+        accepted(&bytes, &data, 2033);
+        assert_eq!(part(&bytes, &data, &[7, 253]), (64748, 32));
+    }
 }

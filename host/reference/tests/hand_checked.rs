@@ -271,14 +271,16 @@ fn four_sizes_of_two_to_the_31() {
     data_refused(&doubles, &format!("{sizes} 0102 0304 0506 0708 09"), 21, 24);
     let booleans = format!("001A 0040 0004 {words} 0004 0021");
     data_refused(&booleans, &sizes, 21, 16);
-    data_refused(&booleans, &format!("{sizes} 02"), 24, 16);
-    data_refused(&booleans, &format!("{sizes} 0100 0100 0102 01"), 24, 21);
+    data_refused(&booleans, &format!("{sizes} 02"), 21, 17);
+    data_refused(&booleans, &format!("{sizes} 0100 0100 01FF 01"), 21, 23);
     let strings = format!("001E 0040 0004 {words} 0008 0030 FFFF FFFF");
     data_refused(&strings, &format!("{sizes} 0000 0000 8000 0000"), 22, 20);
     let wraps = "0001 0000 ".repeat(4);
     data_refused(&doubles, &wraps, 21, 16);
     let enumerations = format!("001E 0040 0004 {words} 0008 0016 0001 0141");
     data_refused(&enumerations, &format!("{sizes} 0001"), 23, 16);
+    let late = format!("{sizes} 0000 0000 0001 0000 00");
+    data_refused(&enumerations, &late, 23, 20);
 }
 
 #[test]
@@ -310,6 +312,8 @@ fn scalars_of_004() {
     );
     holds("0004 0021", "00", &[], 5, 0);
     holds("0004 0021", "01", &[], 5, 1);
+    holds("0004 0021", "FF", &[], 5, 1);
+    walked("0004 0021", "FF", 1, "FF");
     let speed = "000E 001A 0002 0002 FFFF 0003 0001";
     holds(speed, "3FD0 0000 0000 0000", &[], 4, 0.25f64.to_bits());
 }
@@ -327,6 +331,12 @@ fn strings_and_arrays_of_004() {
     let booleans = "000E 0040 0001 FFFF FFFF 0004 0021";
     walked(booleans, "0000 0004 0100 0101", 5, "0400 0000 0100 0101");
     holds(booleans, "0000 0004 0100 0101", &[1], 5, 0);
+    let lamps = "0000 0004 FF00 0280";
+    walked(booleans, lamps, 5, "0400 0000 FF00 0280");
+    for (lamp, lit) in (0..).zip([1, 0, 1, 1]) {
+        holds(booleans, lamps, &[lamp], 5, lit);
+        stands(booleans, lamps, &[lamp], 4 + lamp as usize, 1);
+    }
 }
 
 #[test]

@@ -149,16 +149,29 @@ fn inputs_are_judged_one_after_the_other() {
 
 #[test]
 fn data_that_nobody_asks_for_is_judged_too() {
-    let flag = number(0x21, "rinsed");
-    let writer = cluster(&[identifier(), flag, named(text(), "note")]);
+    let state = named(enumeration(0x15, 2), "state");
+    let writer = cluster(&[identifier(), state, named(text(), "note")]);
     let reader = cluster(&[identifier()]);
     let data = [0, 0, 0, 9, 1, 0, 0, 0, 1, b'x'];
     given(&writer, &reader, &data, &[0, 0, 0, 9]);
     refused(&writer, &reader, &data[..9], answer(21, 3, 5));
     let high = [0, 0, 0, 9, 2, 0x80, 0, 0, 0];
-    refused(&writer, &reader, &high, answer(24, 3, 4));
+    refused(&writer, &reader, &high, answer(23, 3, 4));
     let more = [&data[..], &[0]].concat();
     refused(&writer, &reader, &more, answer(25, 3, 10));
+}
+
+#[test]
+fn booleans_keep_their_bytes() {
+    let lamp = number(0x21, "lamp");
+    let lamps = named(array(1, &plain(0x21)), "lamps");
+    let writer = cluster(&[identifier(), lamp.clone(), lamps.clone()]);
+    let reader = cluster(&[lamps, lamp]);
+    for byte in 0..=255 {
+        let data = [0, 0, 0, 9, byte, 0, 0, 0, 2, 0xFF, byte];
+        let record = [0, 0, 0, 2, 0xFF, byte, byte];
+        given(&writer, &reader, &data, &record);
+    }
 }
 
 #[test]
@@ -447,7 +460,7 @@ fn every_kind() -> Vec<(Vec<u8>, Vec<u8>)> {
         (number(0x0E, "complex"), vec![4; 32]),
         (named(enumeration(0x16, 3), "state"), vec![0, 2]),
         (named(quantity(0x1A), "flow"), vec![0x40; 8]),
-        (number(0x21, "finished"), vec![1]),
+        (number(0x21, "finished"), vec![0xFF]),
         (named(text(), "operator"), b"\0\0\0\x05Priya".to_vec()),
         (named(text(), "empty"), vec![0; 4]),
         (

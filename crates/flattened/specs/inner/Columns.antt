@@ -54,9 +54,9 @@ module _ (o : Order) (s : List ℕ) where
 
   -- a scalar's number keeps its rule; `inside` says so of the descriptors in a cluster
   unfoldable pub KeptFields : ℕ → Fields → ℕ → Type 0 → Type 0
-  KeptFields c empty at inside = keeps (ruleOf c empty) (numberAt o s at (widthOf c)) ≡ true
-  KeptFields c (items xs) at inside = keeps (ruleOf c (items xs)) (numberAt o s at (widthOf c)) ≡ true
-  KeptFields c (pairs ps) at inside = keeps (ruleOf c (pairs ps)) (numberAt o s at (widthOf c)) ≡ true
+  KeptFields c empty at inside = keeps (ruleOf empty) (numberAt o s at (widthOf c)) ≡ true
+  KeptFields c (items xs) at inside = keeps (ruleOf (items xs)) (numberAt o s at (widthOf c)) ≡ true
+  KeptFields c (pairs ps) at inside = keeps (ruleOf (pairs ps)) (numberAt o s at (widthOf c)) ≡ true
   KeptFields c text at inside = Unit {0}
   KeptFields c (dimensions k) at inside = Unit {0}
   KeptFields c (members k) at inside = inside

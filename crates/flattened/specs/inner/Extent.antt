@@ -1,9 +1,8 @@
 -- What a type takes in data where no value of it takes more or less, or only one string does; and how the numbers of a scalar are judged.
-use mathlib.Core.Bool.{Bool, true, false, cond, _||_}
+use mathlib.Core.Bool.{Bool, true, false, _||_}
 use Prim.Native.Nat.{ℕ, _+_}
-use lib.Dec.{ltb, eqb}
+use lib.Dec.{ltb}
 use lib.ListN.{length}
-use Rattle.descriptor.specs.Codes.{booleanCode}
 use Rattle.descriptor.specs.Tree.{Fields, empty, items, pairs, text, dimensions, members, subtype, Tree, node, Forest, nil, cons}
 use Rattle.descriptor.specs.Width.{widthOf}
 use Rattle.flattened.specs.declared.extent.Rule.{Rule}
@@ -21,33 +20,28 @@ isScalar (dimensions k) = false
 isScalar (members k) = false
 isScalar subtype = false
 
--- "An enumeration's number is below its item count (H). A Boolean's byte is 0 for false or 1 for true."
-unfoldable pub ruleOf : ℕ → Fields → Rule
-ruleOf c empty = cond (eqb c booleanCode) (Below 2 24) Any
-ruleOf c (items xs) = Below (length xs) 23
-ruleOf c (pairs ps) = cond (eqb c booleanCode) (Below 2 24) Any
-ruleOf c text = cond (eqb c booleanCode) (Below 2 24) Any
-ruleOf c (dimensions k) = cond (eqb c booleanCode) (Below 2 24) Any
-ruleOf c (members k) = cond (eqb c booleanCode) (Below 2 24) Any
-ruleOf c subtype = cond (eqb c booleanCode) (Below 2 24) Any
+-- "An enumeration's number is below its item count (H)."
+unfoldable pub ruleOf : Fields → Rule
+ruleOf empty = Any
+ruleOf (items xs) = Below (length xs)
+ruleOf (pairs ps) = Any
+ruleOf text = Any
+ruleOf (dimensions k) = Any
+ruleOf (members k) = Any
+ruleOf subtype = Any
 
 unfoldable pub typeRule : Tree → Rule
-typeRule (node c b f m) = ruleOf c b
+typeRule (node c b f m) = ruleOf b
 
 -- whether a rule refuses any number
 unfoldable pub judges : Rule → Bool
 judges Any = false
-judges (Below limit number) = true
+judges (Below limit) = true
 
 -- whether the number v keeps the rule
 unfoldable pub keeps : Rule → ℕ → Bool
 keeps Any v = true
-keeps (Below limit number) v = ltb v limit
-
--- the number of the refusal
-unfoldable pub refusedBy : Rule → ℕ
-refusedBy Any = 24
-refusedBy (Below limit number) = number
+keeps (Below limit) v = ltb v limit
 
 -- one extent and then another: one string at most
 unfoldable pub joint : Extent → Extent → Extent
@@ -73,9 +67,9 @@ tokensIn (Around b a k j) = k
 
 -- by a type's code and fields; `inside` is the extent of the descriptors in it
 unfoldable pub extentFields : ℕ → Fields → Extent → Extent
-extentFields c empty inside = Fixed (widthOf c) 1 (judges (ruleOf c empty))
-extentFields c (items xs) inside = Fixed (widthOf c) 1 (judges (ruleOf c (items xs)))
-extentFields c (pairs ps) inside = Fixed (widthOf c) 1 (judges (ruleOf c (pairs ps)))
+extentFields c empty inside = Fixed (widthOf c) 1 (judges (ruleOf empty))
+extentFields c (items xs) inside = Fixed (widthOf c) 1 (judges (ruleOf (items xs)))
+extentFields c (pairs ps) inside = Fixed (widthOf c) 1 (judges (ruleOf (pairs ps)))
 extentFields c text inside = Around 0 0 1 false
 extentFields c (dimensions k) inside = Varies
 extentFields c (members k) inside = inside

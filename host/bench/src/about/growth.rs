@@ -111,6 +111,7 @@ fn of_checks() -> Vec<Curve> {
     let kinds = [
         elements::doubles,
         elements::flags,
+        elements::enumerations,
         elements::clusters,
         elements::two_texts,
         elements::nested,

@@ -42,6 +42,7 @@ impl Direction {
         for record in [
             many(elements::halves(), 32000),
             many(elements::bytes(), 60000),
+            many(elements::flags(), 60000),
             many(elements::complex(), 4000),
             many(elements::pairs(), 4000),
             many(elements::mixed(), 4000),

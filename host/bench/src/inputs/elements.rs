@@ -68,14 +68,9 @@ pub fn stamps() -> Element {
     })
 }
 
+/// Of every byte by turns.
 pub fn flags() -> Element {
-    Element {
-        first: (4, 1),
-        last: Some(1),
-        ..plain("Booleans", number(0x21, ""), |index| {
-            vec![(index % 3 == 0) as u8]
-        })
-    }
+    plain("Booleans", number(0x21, ""), |index| vec![index as u8])
 }
 
 pub fn enumerations() -> Element {
@@ -88,16 +83,16 @@ pub fn enumerations() -> Element {
     }
 }
 
-/// A Boolean and an enumeration among plain numbers.
+/// A Boolean and an enumeration, which is judged, behind a double.
 pub fn judged() -> Element {
     let members = [number(0x0A, "t"), number(0x21, "ok"), states("state")];
     Element {
-        first: (12, 1),
+        first: (13, 2),
         last: Some(2),
         ..plain(
-            "clusters with judged members",
+            "clusters with a judged member",
             cluster("", &members),
-            |index| [double(index), vec![1, 0, 2]].concat(),
+            |index| [double(index), vec![0xFF, 0, 2]].concat(),
         )
     }
 }

@@ -18,7 +18,7 @@ pub struct Record {
 pub enum Fault {
     /// The last byte is missing: 21.
     Cut,
-    /// The highest byte of the word of this place and width is 255: 22, 23 or 24.
+    /// The highest byte of the word of this place and width is 255: 22 or 23.
     High(usize, usize),
 }
 
@@ -96,19 +96,20 @@ pub fn rig() -> Record {
     Record {
         what: "a record of 14 members".into(),
         descriptor,
-        early: Fault::High(4, 4),
-        late: Fault::High(data.len() - 1, 1),
         data,
+        early: Fault::High(4, 4),
+        late: Fault::Cut,
     }
 }
 
-/// A record with so many rows: numbers, strings and Booleans by turns.
+/// A record with so many rows: Booleans, doubles and strings by turns. Early, the
+/// first string is refused, behind a Boolean and a double.
 pub fn members(rows: usize) -> Record {
     let members = (1..rows).map(|index| {
         let name = format!("m{index:03}");
         match index % 3 {
             0 => (text(&name), characters(index)),
-            1 => (number(0x21, &name), vec![1]),
+            1 => (number(0x21, &name), vec![0xFF]),
             _ => (number(0x0A, &name), double(index)),
         }
     });
@@ -117,7 +118,7 @@ pub fn members(rows: usize) -> Record {
         what: format!("a record of {rows} rows"),
         descriptor,
         data,
-        early: Fault::High(0, 1),
+        early: Fault::High(9, 4),
         late: Fault::Cut,
     }
 }
@@ -143,7 +144,7 @@ pub fn rig_members(pulses: Member) -> Vec<Member> {
             (number(0x06, "slot"), vec![0; 2]),
             (number(0x04, "started"), vec![0; 8]),
             pulses,
-            (number(0x21, "rinsed"), vec![1]),
+            (number(0x21, "rinsed"), vec![0xFF]),
             (number(0x21, "finished"), vec![0]),
         ],
     ]

@@ -86,12 +86,12 @@ impl Descriptor {
         Refusal::unless(normal_form(&self.bytes, out))
     }
 
-    /// Takes bytes as data under this descriptor. Refused: 20 to 25 with input 3.
+    /// Takes bytes as data under this descriptor. Refused: 20 to 23 or 25 with input 3.
     pub fn data<'a>(&'a self, bytes: &'a [u8]) -> Result<Data<'a>, Refusal> {
         Data::new(self, bytes)
     }
 
-    /// The data whose little-endian form is lent. Refused: 20 to 25 with input 3.
+    /// The data whose little-endian form is lent. Refused: 20 to 23 or 25 with input 3.
     ///
     /// ```
     /// # use kerbcanopy::accepted::Descriptor;
@@ -104,8 +104,8 @@ impl Descriptor {
     }
 
     /// Writes the data whose little-endian form is lent to the front of `out`, and
-    /// gives its length. Refused: 20 to 25 with input 3, or 50 with input 4 where
-    /// `out` is too small; nothing is written.
+    /// gives its length. Refused: 20 to 23 or 25 with input 3, or 50 with input 4
+    /// where `out` is too small; nothing is written.
     pub fn big_endian_into(&self, little: &[u8], out: &mut [u8]) -> Result<usize, Refusal> {
         Refusal::unless(from_little_endian(&self.bytes, little, out))
     }

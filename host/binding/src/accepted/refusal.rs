@@ -20,14 +20,14 @@ use crate::{Answer, meaning};
 /// ```
 #[derive(Clone, Copy, Debug, PartialEq, Eq, Hash)]
 pub struct Refusal {
-    /// Why: 1 to 12 for a descriptor, 20 to 25 for data, 30 and 31 for a path, 32
-    /// for a difference, 40 to 44 for a record in a reader's shape, 50 for room.
+    /// Why: 1 to 12 for a descriptor, 20 to 23 and 25 for data, 30 and 31 for a path,
+    /// 32 for a difference, 40 to 44 for a record in a reader's shape, 50 for room.
     pub number: u32,
     /// What is at fault: 1 the first or the writer's descriptor, 2 the second or
     /// the reader's, 3 the data, 4 the request.
     pub input: u32,
     /// Where: for 2 to 11 the first byte of the descriptor at fault, for 12 the
-    /// descriptor's size, for 21 to 24 the first byte of the piece at fault, for 25
+    /// descriptor's size, for 21 to 23 the first byte of the piece at fault, for 25
     /// the first byte left over, for 30 the step, for 40 and 42 to 44 the reader's
     /// member, for 50 the length needed, else 0.
     pub place: u32,

@@ -13,7 +13,7 @@ pub enum Value {
     Single(f32),
     /// Codes 0A and 1A.
     Double(f64),
-    /// Code 21.
+    /// Code 21: false for the byte 00, true for every other.
     Flag(bool),
 }
 

@@ -127,7 +127,8 @@ fn found_json(types: &Descriptor, data: &[u8], found: &Found) -> Json {
     }
 }
 
-/// A number's fields, with its item where it is an enumeration's.
+/// A number's fields, with its item where it is an enumeration's, and with the byte
+/// as it came where it is a Boolean.
 fn scalar_json(types: &Descriptor, row: usize, bytes: &[u8]) -> Vec<(&'static str, Json)> {
     let read = kerbcanopy::read_value(types.own(row), bytes, &[]);
     if read.answer.number != 0 {
@@ -136,6 +137,9 @@ fn scalar_json(types: &Descriptor, row: usize, bytes: &[u8]) -> Vec<(&'static st
         return vec![("text", Json::text(text)), ("bytes", Json::text(bytes))];
     }
     let mut fields = Vec::from(value::json(&read));
+    if types.rows[row].code == 0x21 {
+        fields.push(("bytes", Json::text(hexadecimal::digits(bytes))));
+    }
     if let Some(item) = types.items(row).get(read.bits as usize) {
         fields.push(("item", Json::characters(item)));
     }

@@ -98,7 +98,6 @@ pub fn of_part(
             let count = u32::from(types.rows[part.row].count).to_be_bytes();
             word(start, count[4 - part.bytes.len()..].to_vec(), 23);
         }
-        0x21 => word(start, vec![2], 24),
         _ => {}
     }
     damaged

@@ -187,7 +187,7 @@ fn value(random: &mut Random, types: &Descriptor, row: usize, bytes: &mut Vec<u8
 fn scalar(random: &mut Random, types: &Descriptor, row: usize, bytes: &mut Vec<u8>) {
     let width = types.width(row).expect("it is a scalar");
     match types.rows[row].code {
-        0x21 => bytes.push(random.below(2) as u8),
+        0x21 => bytes.push([0, 1, random.byte()][random.below(3)]),
         0x15..=0x17 => {
             let item = random.below(usize::from(types.rows[row].count)) as u32;
             bytes.extend(&item.to_be_bytes()[4 - width..]);

@@ -61,11 +61,12 @@ fn each_number_is_turned_by_itself() {
 #[test]
 fn little_endian_data_is_refused_where_its_words_are() {
     let folder = Folder::new("data-little-refused");
-    folder.put("types", &cluster(&[string(), descriptor(0x21, &[])]));
+    let mode = enumeration(0x15, &[b"off", b"on"]);
+    folder.put("types", &cluster(&[string(), mode]));
     folder.put("data", &hex("01000000 61 02"));
     folder.run(&["big", "types", "data"]).refuses(
-        "data: refused with 24: the Boolean is neither 0 nor 1 \
-         (input 3, the data; place 5; in 1): 01 00 00 00 61 [02]; byte 02",
+        "data: refused with 23: the enumeration has no item of this number \
+         (input 3, the data; place 5; in 1): 01 00 00 00 61 [02]; number 2 of 2 items",
     );
     folder.run(&["little", "types", "data"]).refuses(
         "data: refused with 21: the data ends inside this piece \

@@ -89,6 +89,8 @@ fn flags_and_enumerations() {
     let members = [
         (plain(0x21), "00", "Boolean = false"),
         (plain(0x21), "01", "Boolean = true"),
+        (plain(0x21), "02", "Boolean = true (byte 02)"),
+        (plain(0x21), "FF", "Boolean = true (byte FF)"),
         (
             enumeration(0x15, &[b"on", b"off"]),
             "01",

@@ -194,17 +194,18 @@ fn a_place_at_the_end_is_marked() {
 #[test]
 fn an_element_far_behind_is_shown_where_it_is_at_fault() {
     let folder = Folder::new("explain-far");
-    folder.put("types", &array(1, &descriptor(0x21, &[])));
+    folder.put("types", &array(1, &enumeration(0x15, &[b"off", b"on"])));
     let mut data = hex("00000014");
     data.extend([1; 20]);
     data[4 + 15] = 9;
     folder.put("data", &data);
     let ran = folder.run(&["explain", "types", "data"]);
     let tail = "\
-   11  000B  01                           7 Boolean = true
+   11  000B  01                           7 8-bit enumeration of 2 items = 1 \"on\"
    12  000C  01 01 01 01 01 01 01         .. 7 more elements
-   19  0013 [09]                          15 Boolean: refused, byte 09
-             ^                          refused with 24: the Boolean is neither 0 nor 1
+   19  0013 [09]                          15 8-bit enumeration of 2 items: refused, \
+         number 9 of 2 items
+             ^                          refused with 23: the enumeration has no item of this number
    20  0014  01 01 01 01                not read
 ";
     assert!(ran.text().ends_with(tail), "{}", ran.text());

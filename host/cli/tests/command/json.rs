@@ -109,7 +109,7 @@ fn data_values_and_views() {
 }
 
 /// A code, data, and the fields of its value.
-const VALUES: [(u8, &str, &str); 7] = [
+const VALUES: [(u8, &str, &str); 9] = [
     (
         0x01,
         "FF",
@@ -144,6 +144,16 @@ const VALUES: [(u8, &str, &str); 7] = [
         0x21,
         "01",
         r#""flag","value":true,"text":"true","bits":"0000000000000001""#,
+    ),
+    (
+        0x21,
+        "FF",
+        r#""flag","value":true,"text":"true","bits":"0000000000000001""#,
+    ),
+    (
+        0x21,
+        "00",
+        r#""flag","value":false,"text":"false","bits":"0000000000000000""#,
     ),
 ];
 

@@ -12,6 +12,7 @@ mod data;
 mod dump;
 mod explain;
 mod files;
+mod flags;
 mod json;
 mod limits;
 mod output;

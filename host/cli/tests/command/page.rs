@@ -74,11 +74,11 @@ fn every_byte_stands_there_once_with_its_field() {
 
 #[test]
 fn the_place_of_a_refusal_is_marked() {
-    let names = ["bath.hex", "data/bath-flag.hex", "array-in-array.hex"];
+    let names = ["bath.hex", "data/bath-note.hex", "array-in-array.hex"];
     let folder = Folder::with_samples("page-place", &names);
     folder.put("cut", &hex("01"));
     let cases: [(&[&str], &str); 3] = [
-        (&["bath.hex", "data-bath-flag.hex"], "44"),
+        (&["bath.hex", "data-bath-note.hex"], "29"),
         (&["array-in-array.hex"], "10"),
         (&["bath.hex", "cut"], "1"),
     ];

@@ -107,7 +107,6 @@ fn meaning(number: u32) -> &'static str {
         21 => "the data ends inside this piece",
         22 => "a length or size is 2147483648 or more",
         23 => "the enumeration has no item of this number",
-        24 => "the Boolean is neither 0 nor 1",
         25 => "bytes are left over",
         30 => "the step leads nowhere: there is no such part",
         31 => {

@@ -22,7 +22,7 @@ impl Both {
         self.little.extend(bytes.iter().rev());
     }
 
-    /// Adds bytes that are no number: characters and Booleans.
+    /// Adds bytes that have no order: characters and Booleans.
     pub fn push_plain(&mut self, bytes: &[u8]) {
         self.big.extend(bytes);
         self.little.extend(bytes);

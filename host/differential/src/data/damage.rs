@@ -110,15 +110,6 @@ fn aimed(random: &mut Random, flattened: &Flattened, piece: &Piece) -> Damaged {
             data.set_number(piece.start, &random.bytes(bytes));
             Some(accepted)
         }
-        Of::Flag => {
-            let byte = random.pick(&[0, 1, 2, 2, 3, 0x80, 0xFF]);
-            data.set_number(piece.start, &[byte]);
-            Some(if byte > 1 {
-                refused(24, piece.start)
-            } else {
-                accepted
-            })
-        }
         Of::Enumeration(items) => {
             let over = set_enumeration(random, &mut data, piece, items as u32);
             Some(if over {

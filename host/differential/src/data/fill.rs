@@ -33,7 +33,6 @@ pub enum Of {
     Numbers(usize),
     /// A number below this many items.
     Enumeration(usize),
-    Flag,
     Text,
     Sizes,
 }
@@ -145,11 +144,13 @@ impl Filler<'_> {
         });
     }
 
+    /// Any byte; those at which a reading may go wrong come more often.
     fn flag(&mut self) -> Value {
-        let flag = self.random.below(2) as u8;
-        self.filled.data.push_plain(&[flag]);
-        self.piece(1, Of::Flag);
-        Some((5, u64::from(flag)))
+        let any = self.random.byte();
+        let byte = self.random.pick(&[0, 1, 2, 0xFF, any]);
+        self.filled.data.push_plain(&[byte]);
+        self.piece(1, Of::Numbers(1));
+        scalar::value(0x21, &[byte])
     }
 
     fn numbers(&mut self, code: u8) -> Value {

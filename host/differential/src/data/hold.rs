@@ -114,7 +114,7 @@ impl Hold<'_> {
             Some(Found::Nowhere(step)) => (request(30, step), 0, 0),
             None => value,
         };
-        self.tally.valued(ask, value.0);
+        self.tally.valued(self.case, ask, value.0);
         demand_path("read_value", &path, proved, value, stated)
     }
 }

@@ -40,11 +40,10 @@ pub fn value(code: u8, bytes: &[u8]) -> Value {
     let number: i128 = places
         .map(|(&byte, place)| i128::from(byte) << (8 * place))
         .sum();
-    let below_zero = kind == 2 && bytes[0] >= 0x80;
-    let number = if below_zero {
-        number - (1 << (8 * bytes.len()))
-    } else {
-        number
+    let number = match kind {
+        2 if bytes[0] >= 0x80 => number - (1 << (8 * bytes.len())),
+        5 => i128::from(number != 0),
+        _ => number,
     };
     Some((kind, number as u64))
 }

@@ -26,6 +26,7 @@ pub fn all() -> Vec<Limit> {
     order(&mut limits);
     members(&mut limits);
     types(&mut limits);
+    flags(&mut limits);
     stamps(&mut limits);
     widest(&mut limits);
     longest(&mut limits);
@@ -320,6 +321,22 @@ fn types(limits: &mut Limits) {
             }
         }
     }
+}
+
+/// Booleans keep their bytes.
+fn flags(limits: &mut Limits) {
+    let lamp = number(0x21, "lamp");
+    let reader = cluster(std::slice::from_ref(&lamp));
+    for byte in [0, 1, 2, 0x7F, 0x80, 0xFE, 0xFF] {
+        let trees = [cluster(&[t(), lamp.clone()]), reader.clone()];
+        let what = format!("a Boolean of {byte}");
+        limits.given(what, trees, &[0, 25, byte], &[byte]);
+    }
+    let lamps = named(array_of(Tree::unnamed(Body::Plain(0x21))), "lamps");
+    let lit: Vec<u8> = [0, 0, 1, 0].into_iter().chain(0..=255).collect();
+    let trees = [cluster(&[lamp, lamps.clone()]), cluster(&[lamps])];
+    let data = [&[0xFF], &lit[..]].concat();
+    limits.given("Booleans of every byte", trees, &data, &lit);
 }
 
 /// A time stamp and what it holds are two types.

@@ -6,7 +6,7 @@ use crate::entry::ENTRIES;
 use crate::kind::{Area, KINDS, Known};
 
 /// Every number with the input at fault.
-pub const ANSWERS: [(u32, u32); 40] = [
+pub const ANSWERS: [(u32, u32); 39] = [
     (0, 0),
     (1, 1),
     (2, 1),
@@ -36,7 +36,6 @@ pub const ANSWERS: [(u32, u32); 40] = [
     (21, 3),
     (22, 3),
     (23, 3),
-    (24, 3),
     (25, 3),
     (30, 4),
     (31, 4),
@@ -50,9 +49,9 @@ pub const ANSWERS: [(u32, u32); 40] = [
 ];
 
 /// Every number that the questions can answer.
-pub const NUMBERS: [u32; 28] = [
-    0, 1, 2, 3, 4, 5, 6, 7, 8, 9, 10, 11, 12, 20, 21, 22, 23, 24, 25, 30, 31, 32, 40, 41, 42, 43,
-    44, 50,
+pub const NUMBERS: [u32; 27] = [
+    0, 1, 2, 3, 4, 5, 6, 7, 8, 9, 10, 11, 12, 20, 21, 22, 23, 25, 30, 31, 32, 40, 41, 42, 43, 44,
+    50,
 ];
 
 /// What the cases are about.
@@ -62,7 +61,7 @@ pub const AREAS: [Area; 4] = [Area::Descriptor, Area::Data, Area::Record, Area::
 pub fn numbers(area: Area) -> &'static [u32] {
     match area {
         Area::Descriptor => &NUMBERS[..13],
-        Area::Data => &NUMBERS[..19],
+        Area::Data => &NUMBERS[..18],
         Area::Record => &NUMBERS,
         Area::Interval => &[0, 32],
     }
@@ -126,7 +125,7 @@ pub enum Deep {
     Refused(u32),
     /// The deepest piece of accepted data.
     Data,
-    /// A piece refused with this number, 21 to 24.
+    /// A piece refused with this number, 21 to 23.
     Piece(u32),
     View,
     Value,
@@ -142,10 +141,10 @@ impl Deep {
             Deep::Refused(number) => number as usize - 1,
             Deep::Data => 11,
             Deep::Piece(number) => number as usize - 9,
-            Deep::View => 16,
-            Deep::Value => 17,
-            Deep::NoStep => 18,
-            Deep::NoValue => 19,
+            Deep::View => 15,
+            Deep::Value => 16,
+            Deep::NoStep => 17,
+            Deep::NoValue => 18,
         }
     }
 }
@@ -155,7 +154,7 @@ pub fn depths() -> Table {
     let mut rows = vec!["a descriptor".to_string()];
     rows.extend((2..=11).map(|number| format!("a descriptor with {number}")));
     rows.push("data".into());
-    rows.extend((21..=24).map(|number| format!("a piece with {number}")));
+    rows.extend((21..=23).map(|number| format!("a piece with {number}")));
     rows.extend(["view", "value", "30", "31"].map(String::from));
     Table::new("by depth", rows, texts(1..=9), |row, column| {
         let depth = column + 1;

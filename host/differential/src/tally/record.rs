@@ -6,7 +6,7 @@ use super::Tally;
 use super::lines::Of;
 use super::met::Coded;
 use super::table::{Cell, Table};
-use crate::record::case::Case;
+use crate::record::case::{Case, Record};
 
 /// Why a reader is refused with 40, and how often a member is there.
 const REASONS: [&str; 7] = [
@@ -79,17 +79,25 @@ impl Tally {
     }
 
     fn given(&mut self, case: &Case, answer: Answer) {
-        let [wanted, written] = [members(&case.reader), members(&case.record.writer)];
+        let (reader, Record { writer, data, .. }) = (&case.reader, &case.record);
+        let [wanted, written] = [members(reader), members(writer)];
         self.lines.count(Of::Writer, written.len());
         self.lines.count(Of::Reader, wanted.len());
         self.lines.count(Of::Given, answer.place as usize);
+        let found = |member: &Row| {
+            let named = |row: &Row| name(writer, row) == name(reader, member);
+            written.iter().position(named)
+        };
         for member in &wanted {
             self.coded(member.code as u8, Coded::Given);
+            if let (0x21, Some(step)) = (member.code, found(member)) {
+                let part = reference::view(writer, data, &[step as u32]);
+                self.flag(data[part.start], Coded::Given);
+            }
         }
         let first = &wanted[0];
-        let named = |row: &&Row| name(&case.record.writer, row) == name(&case.reader, first);
-        let found = written.iter().find(named);
-        if found.is_some_and(|row| own(&case.record.writer, row) != own(&case.reader, first)) {
+        let other = |step: usize| own(writer, &written[step]) != own(reader, first);
+        if found(first).is_some_and(other) {
             self.records.count(6, 0);
         }
     }

@@ -134,9 +134,6 @@ impl<'a> Walk<'a> {
         if matches!(code, 0x15..=0x17) && last >= u64::from(items) {
             return Err((23, start));
         }
-        if code == 0x21 && last > 1 {
-            return Err((24, start));
-        }
         self.pieces += 1;
         Ok(())
     }
@@ -239,7 +236,7 @@ pub fn value(of: &Type, bytes: &[u8]) -> Option<(u32, u64)> {
         0x05..=0x08 | 0x15..=0x17 => Some((1, unsigned())),
         0x09 | 0x19 => Some((3, unsigned())),
         0x0A | 0x1A => Some((4, unsigned())),
-        0x21 => Some((5, unsigned())),
+        0x21 => Some((5, u64::from(unsigned() != 0))),
         _ => None,
     }
 }

@@ -45,7 +45,7 @@ pub fn any_type(random: &mut Random, levels: usize) -> Type {
 }
 
 fn scalar(random: &mut Random) -> Type {
-    // Those that can be refused come more often.
+    // Those that can be refused, and Booleans, come more often.
     let code = match random.below(4) {
         0 => [0x15, 0x16, 0x17, 0x21][random.below(4)],
         _ => SCALARS[random.below(SCALARS.len())],
@@ -183,7 +183,6 @@ fn any_scalar(code: u8, items: u32, random: &mut Random, data: &mut Vec<u8>) {
     let most = match code {
         0x15 => items.min(256),
         0x16 | 0x17 => items,
-        0x21 => 2,
         _ => {
             data.extend((0..width * count).map(|_| random.byte()));
             return;

@@ -22,7 +22,7 @@ column-requires : tie.Need-column-requires
 column-requires c κs =
     let a = c .before .before .before .before .before .before .args in
     let pre = c .before .before .before .before .before .before .pre in
-    let narrow = rule-narrow (now (a .d)) (a .p) (pre .0) _ _ (sym (c .before .rule .given .1) ∙ c .before .before .before .rule-of .ensures) in
+    let narrow = rule-narrow (now (a .d)) (a .p) (pre .0) _ (sym (c .before .rule .given .1) ∙ c .before .before .before .rule-of .ensures) in
     (rw (pre .1 .0 .0) narrow, pre .1 .1)
 
 returns : tie.Need-returns
@@ -35,7 +35,7 @@ returns-2 : tie.Need-returns-2
 returns-2 c =
     let a = c .before .before .before .before .before .before .before .args in
     let pre = c .before .before .before .before .before .before .before .pre in
-    (c .column .ensures .0, each-below (orderOf (a .o)) (now (a .s)) (a .front) (a .whole) (a .at) (c .column .result) (now (a .d)) (a .p) (pre .0) (omega (arith, pre .1 .0 .0, pre .1 .0 .1)) _ _ (a .w) (sym (c .before .before .rule .given .1) ∙ c .before .before .before .before .rule-of .ensures) (pre .1 .0 .0) (c .column .ensures .1))
+    (c .column .ensures .0, each-below (orderOf (a .o)) (now (a .s)) (a .front) (a .whole) (a .at) (c .column .result) (now (a .d)) (a .p) (pre .0) (omega (arith, pre .1 .0 .0, pre .1 .0 .1)) _ (a .w) (sym (c .before .before .rule .given .1) ∙ c .before .before .before .before .rule-of .ensures) (pre .1 .0 .0) (c .column .ensures .1))
 
 pub scalar-column-spec : {M : Type 1} → statement M
 scalar-column-spec =

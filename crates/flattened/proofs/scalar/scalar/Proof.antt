@@ -38,14 +38,14 @@ narrow-number-requires : tie.Need-narrow-number-requires
 narrow-number-requires c κs =
     let a = c .before .before .before .before .before .before .before .before .before .before .args in
     let s = now (a .s) in
-    let narrow = rule-narrow (now (a .d)) (a .p) (c .before .before .before .before .before .before .before .before .before .before .pre .0) _ _ (sym (c .before .rule .given .1) ∙ c .before .before .before .rule-of .ensures) in
+    let narrow = rule-narrow (now (a .d)) (a .p) (c .before .before .before .before .before .before .before .before .before .before .pre .0) _ (sym (c .before .rule .given .1) ∙ c .before .before .before .rule-of .ensures) in
     (rw (c .before .before .before .before .before .before .before .before .before .before .pre .1 .0 .0) narrow, skip-to s (a .from .at) (a .w) _ (sym (c .before .before .before .before .before .next .given .1) ∙ c .before .before .before .before .before .before .before .skip .ensures) .fits)
 
 returns-2 : tie.Need-returns-2
 returns-2 c =
     let a = c .before .before .before .before .before .before .before .before .before .before .before .before .args in
     let s = now (a .s) in
-    scalar-refused (now (a .d)) (a .p) (c .before .before .before .before .before .before .before .before .before .before .before .before .pre .0) (a .w) (c .before .before .before .before .before .before .before .before .before .before .before .before .pre .1 .0 .0) (c .before .before .before .before .before .before .before .before .before .before .before .before .pre .1 .0 .1) (orderOf (a .o)) s (a .from .at) _ (skip-to s (a .from .at) (a .w) _ (sym (c .before .before .before .before .before .before .before .next .given .1) ∙ c .before .before .before .before .before .before .before .before .before .skip .ensures)) _ _ (sym (c .before .before .before .rule .given .1) ∙ c .before .before .before .before .before .rule-of .ensures) _ (c .before .narrow-number .ensures) (c .if1 .taken)
+    scalar-refused (now (a .d)) (a .p) (c .before .before .before .before .before .before .before .before .before .before .before .before .pre .0) (a .w) (c .before .before .before .before .before .before .before .before .before .before .before .before .pre .1 .0 .0) (c .before .before .before .before .before .before .before .before .before .before .before .before .pre .1 .0 .1) (orderOf (a .o)) s (a .from .at) _ (skip-to s (a .from .at) (a .w) _ (sym (c .before .before .before .before .before .before .before .next .given .1) ∙ c .before .before .before .before .before .before .before .before .before .skip .ensures)) _ (sym (c .before .before .before .rule .given .1) ∙ c .before .before .before .before .before .rule-of .ensures) _ (c .before .narrow-number .ensures) (c .if1 .taken)
 
 returns-3 : tie.Need-returns-3
 returns-3 c =
@@ -57,7 +57,7 @@ returns-4 : tie.Need-returns-4
 returns-4 c =
     let a = c .before .before .before .before .before .before .before .before .before .before .before .before .args in
     let s = now (a .s) in
-    scalar-kept (now (a .d)) (a .p) (c .before .before .before .before .before .before .before .before .before .before .before .before .pre .0) (a .w) (c .before .before .before .before .before .before .before .before .before .before .before .before .pre .1 .0 .0) (c .before .before .before .before .before .before .before .before .before .before .before .before .pre .1 .0 .1) (orderOf (a .o)) s (a .from .at) _ (skip-to s (a .from .at) (a .w) _ (sym (c .before .before .before .before .before .before .before .next .given .1) ∙ c .before .before .before .before .before .before .before .before .before .skip .ensures)) _ _ (sym (c .before .before .before .rule .given .1) ∙ c .before .before .before .before .before .rule-of .ensures) _ (c .before .narrow-number .ensures) (omega (arith, c .if1 .left))
+    scalar-kept (now (a .d)) (a .p) (c .before .before .before .before .before .before .before .before .before .before .before .before .pre .0) (a .w) (c .before .before .before .before .before .before .before .before .before .before .before .before .pre .1 .0 .0) (c .before .before .before .before .before .before .before .before .before .before .before .before .pre .1 .0 .1) (orderOf (a .o)) s (a .from .at) _ (skip-to s (a .from .at) (a .w) _ (sym (c .before .before .before .before .before .before .before .next .given .1) ∙ c .before .before .before .before .before .before .before .before .before .skip .ensures)) _ (sym (c .before .before .before .rule .given .1) ∙ c .before .before .before .before .before .rule-of .ensures) _ (c .before .narrow-number .ensures) (omega (arith, c .if1 .left))
 
 pub scalar-spec : {M : Type 1} → statement M
 scalar-spec =

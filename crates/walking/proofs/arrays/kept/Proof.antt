@@ -22,7 +22,7 @@ low-requires : tie.Need-low-requires
 low-requires c κs =
     let a = c .before .before .before .before .before .before .args in
     let pre = c .before .before .before .before .before .before .pre in
-    let narrow = rule-narrow (now (a .d)) (a .p) (pre .0) _ _ (sym (c .before .rule .given .1) ∙ c .before .before .before .rule-of .ensures) in
+    let narrow = rule-narrow (now (a .d)) (a .p) (pre .0) _ (sym (c .before .rule .given .1) ∙ c .before .before .before .rule-of .ensures) in
     (rw (pre .1 .0) narrow, omega (arith, pre .1 .1))
 
 returns : tie.Need-returns
@@ -33,7 +33,7 @@ returns c =
 returns-2 : tie.Need-returns-2
 returns-2 c =
     let a = c .before .before .before .before .before .before .before .args in
-    (c .low .ensures .0, low-kept _ (orderOf (a .o)) (now (a .s)) (a .w) (a .at) (c .low .result) _ _ (sym (c .before .before .rule .given .1) ∙ c .before .before .before .before .rule-of .ensures) (c .low .ensures .1))
+    (c .low .ensures .0, low-kept _ (orderOf (a .o)) (now (a .s)) (a .w) (a .at) (c .low .result) _ (sym (c .before .before .rule .given .1) ∙ c .before .before .before .before .rule-of .ensures) (c .low .ensures .1))
 
 pub kept-spec : {M : Type 1} → statement M
 kept-spec = tie.close (tie.spec rule-of-requires enum-told enum-known-rule low-requires returns returns-2)

@@ -73,7 +73,7 @@ fn numbers_20_and_21() {
 }
 
 #[test]
-fn numbers_22_to_25() {
+fn numbers_22_23_and_25() {
     let byte = descriptor(0x05, &[]);
     let list = named(cluster(&[named(array(2, &byte), b"list")]), b"top");
     let sizes = hex("00000001 80000000");
@@ -85,16 +85,8 @@ fn numbers_22_to_25() {
     let path: Path = &[(2, None), (0, Some("mode"))];
     let there = ["00 00 00 03 00 00 00 00 [00] 01", "number 1 of 1 item"];
     data_is_refused("refused-23", [&modes, &third], 23, (8, path), there);
-    let flag = descriptor(0x21, &[]);
-    data_is_refused(
-        "refused-24",
-        [&flag, &[2]],
-        24,
-        (0, &[]),
-        ["[02]", "byte 02"],
-    );
     let there = ["01 [02] 03", "2 bytes left"];
-    data_is_refused("refused-25", [&flag, &[1, 2, 3]], 25, (1, &[]), there);
+    data_is_refused("refused-25", [&byte, &[1, 2, 3]], 25, (1, &[]), there);
 }
 
 #[test]

@@ -16,14 +16,14 @@ pub fn elements() -> Vec<Element> {
     let double = [0x40, 1, 2, 3, 4, 5, 6, 7];
     let pair = Both::new().number(&double).number(&double);
     let mixed = Both::new()
-        .plain(&[1])
+        .plain(&[0xFF])
         .number(&[1, 2, 3, 4])
         .number(&[5, 6, 7, 8]);
     let element = |tree, data, pieces| Element { tree, data, pieces };
     vec![
         element(plain(0x0A), Both::new().number(&double), 1),
         element(plain(0x05), Both::new().plain(&[9]), 1),
-        element(plain(0x21), Both::new().plain(&[1]), 1),
+        element(plain(0x21), Both::new().plain(&[0xFF]), 1),
         element(enumeration(0x16, 3), Both::new().number(&[0, 2]), 1),
         element(text(), Both::new().word(2).plain(b"ab"), 1),
         element(cluster(vec![plain(0x0A), plain(0x0A)]), pair, 2),

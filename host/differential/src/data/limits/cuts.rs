@@ -16,7 +16,7 @@ pub fn add(limits: &mut Limits) {
         plain(0x21),
         enumeration(0x16, 4),
         quantity(0x1D),
-        plain(0x21),
+        enumeration(0x15, 4),
     ]);
     let inner = cluster(vec![
         plain(0x03),

@@ -35,12 +35,12 @@ type Wrong = (&'static str, Tree, Both, u32, usize);
 const HIGH_WORD: u32 = 0x8000_0000;
 
 fn wrong_scalars() -> Vec<Wrong> {
-    let flag = |bytes: &[u8]| Both::new().plain(bytes);
-    let nine = Both::new().number(&[9]);
+    let bytes = |bytes: &[u8]| Both::new().plain(bytes);
+    let states = enumeration(0x15, 9);
     vec![
-        ("Boolean", plain(0x21), flag(&[2]), 24, 0),
-        ("second Boolean", plain(0x21), flag(&[1, 2]), 24, 1),
-        ("enumeration", enumeration(0x15, 9), nine, 23, 0),
+        ("missing Boolean", plain(0x21), bytes(&[2]), 21, 1),
+        ("enumeration", states.clone(), bytes(&[9]), 23, 0),
+        ("second enumeration", states, bytes(&[8, 9]), 23, 1),
         (
             "4-byte enumeration",
             enumeration(0x17, 9),
@@ -50,23 +50,23 @@ fn wrong_scalars() -> Vec<Wrong> {
         ),
         ("high length", text(), Both::new().word(HIGH_WORD), 22, 0),
         ("cut string", text(), Both::new().word(1), 21, 0),
-        ("cut double", plain(0x0A), Both::new().plain(&[0; 7]), 21, 0),
+        ("cut double", plain(0x0A), bytes(&[0; 7]), 21, 0),
     ]
 }
 
 fn wrong_clusters() -> Vec<Wrong> {
     let double = Both::new().number(&[0; 8]);
     let number = Both::new().number(&[0, 1]);
-    let behind_double = cluster(vec![plain(0x0A), plain(0x21)]);
+    let behind_double = cluster(vec![plain(0x0A), enumeration(0x15, 2)]);
     let behind_number = |tree| cluster(vec![plain(0x02), tree]);
     let bytes = array(1, plain(0x05));
     let high = number.clone().word(HIGH_WORD);
     vec![
         (
-            "Boolean behind a double",
+            "enumeration behind a double",
             behind_double,
             double.plain(&[2]),
-            24,
+            23,
             8,
         ),
         (

@@ -72,13 +72,19 @@ fn records(limits: &mut Limits) {
     );
 }
 
-/// A refusal in the very last bytes.
+/// A refusal in the very last bytes, and a Boolean there.
 fn last_pieces(limits: &mut Limits) {
     let flags = array(1, plain(0x21));
     let mut data = counted(65532, 1);
-    limits.accepted("65,532 Booleans", &flags, data.clone(), 65533);
+    data.set_number(65535, &[0xFF]);
+    limits.accepted("65,532 Booleans", &flags, data, 65533);
+    limits.part(&[65531], 65535, 1, Some((5, 1)));
+
+    let states = array(1, enumeration(0x15, 2));
+    let mut data = counted(65532, 1);
+    limits.accepted("65,532 enumerations", &states, data.clone(), 65533);
     data.set_number(65535, &[2]);
-    limits.refused("the last of 65,532 Booleans", &flags, data, 24, 65535);
+    limits.refused("the last of 65,532 enumerations", &states, data, 23, 65535);
 
     let states = array(1, enumeration(0x16, 300));
     let highest = 299u16.to_be_bytes();
@@ -96,11 +102,11 @@ fn last_pieces(limits: &mut Limits) {
     limits.refused("65,532 characters less one", &text(), cut, 21, 0);
 }
 
-/// A Boolean at fault far behind the first element, where elements have a width
-/// that divides no power of two.
+/// An enumeration at fault far behind the first element, where elements have a
+/// width that divides no power of two.
 fn far_elements(limits: &mut Limits) {
     let (count, width) = (5000, 3);
-    let tree = array(1, cluster(vec![plain(0x21), plain(0x06)]));
+    let tree = array(1, cluster(vec![enumeration(0x15, 2), plain(0x06)]));
     let element = |data: Both, _| data.plain(&[1]).number(&[2, 3]);
     let data = (0..count).fold(Both::new().word(count as u32), element);
     limits.accepted("5,000 clusters", &tree, data.clone(), 1 + 2 * count);
@@ -109,17 +115,25 @@ fn far_elements(limits: &mut Limits) {
         let place = 4 + width * index;
         wrong.set_number(place, &[2]);
         let what = format!("cluster {index} of 5,000 at fault");
-        limits.refused(what, &tree, wrong, 24, place);
+        limits.refused(what, &tree, wrong, 23, place);
     }
 }
 
 /// Too long, and wrong from the first byte.
 fn too_long(limits: &mut Limits) {
+    let state = enumeration(0x15, 2);
     for length in [65537, 65538, 131_072, 200_000] {
         let data = Both::new().plain(&vec![2; length]);
-        let what = format!("{length} bytes for a Boolean");
-        limits.refused(what, &plain(0x21), data, 20, 0);
+        let what = format!("{length} bytes for an enumeration");
+        limits.refused(what, &state, data, 20, 0);
     }
     let data = Both::new().plain(&[2; 65536]);
-    limits.refused("65,536 bytes for a Boolean", &plain(0x21), data, 24, 0);
+    limits.refused(
+        "65,536 bytes for an enumeration",
+        &state,
+        data.clone(),
+        23,
+        0,
+    );
+    limits.refused("65,536 bytes for a Boolean", &plain(0x21), data, 25, 1);
 }

@@ -70,7 +70,7 @@ fn clusters(limits: &mut Limits) {
     let beside = (1..7).fold(cluster(vec![text(), plain(0x21)]), |inner, _| {
         cluster(vec![inner, plain(0x21)])
     });
-    let data = Both::new().word(2).plain(b"hi").plain(&[1; 7]);
+    let data = Both::new().word(2).plain(b"hi").plain(&[0xFF; 7]);
     limits.accepted("a Boolean beside each cluster", &beside, data, 8);
     limits.part(&[0, 0, 0, 0, 0, 0, 0], 0, 6, None);
     limits.part(&[0, 0, 0, 0, 0, 0, 1], 6, 1, Some((5, 1)));

@@ -1,7 +1,7 @@
-//! Every scalar code at its edges, cut and with bytes left over; Booleans and
-//! enumerations at their limits.
+//! Every scalar code at its edges, cut and with bytes left over; Booleans of every
+//! byte, and enumerations at their limits.
 
-use super::{Both, Limits, array, enumeration, every_scalar, plain};
+use super::{Both, Limits, array, cluster, enumeration, every_scalar, plain};
 use crate::data::scalar::{edges, numbers, value, width};
 use crate::tree::Tree;
 
@@ -46,17 +46,27 @@ fn add_edge(limits: &mut Limits, code: u8, tree: &Tree, edge: &[u8]) {
     limits.nowhere(&[u32::MAX; 9], 0);
 }
 
+/// Any byte but zero is true: alone, in an array, and beside a number there.
 fn flags(limits: &mut Limits) {
+    let flag = |byte| Some((5, u64::from(byte != 0)));
     for byte in 0..=255 {
         let data = Both::new().plain(&[byte]);
-        let what = format!("Boolean {byte}");
-        match byte {
-            0 | 1 => {
-                limits.accepted(what, &plain(0x21), data, 1);
-                limits.part(&[], 0, 1, Some((5, u64::from(byte))));
-            }
-            _ => limits.refused(what, &plain(0x21), data, 24, 0),
-        }
+        limits.accepted(format!("Boolean {byte}"), &plain(0x21), data, 1);
+        limits.part(&[], 0, 1, flag(byte));
+    }
+    let bytes: Vec<u8> = (0..=255).collect();
+    let data = Both::new().word(256).plain(&bytes);
+    limits.accepted("Booleans of every byte", &array(1, plain(0x21)), data, 257);
+    for byte in 0..=255u8 {
+        limits.part(&[byte.into()], 4 + usize::from(byte), 1, flag(byte));
+    }
+    let tree = array(1, cluster(vec![plain(0x06), plain(0x21)]));
+    let element = |data: Both, byte: &u8| data.number(&[1, 2]).plain(&[*byte]);
+    let data = bytes.iter().fold(Both::new().word(256), element);
+    limits.accepted("every byte beside a number", &tree, data, 513);
+    for byte in 0..=255u8 {
+        let start = 4 + 3 * usize::from(byte) + 2;
+        limits.part(&[byte.into(), 1], start, 1, flag(byte));
     }
 }
 

@@ -1,6 +1,6 @@
 //! Strings: lengths that fit, run over, or are too high.
 
-use super::{Both, Limits, cluster, plain, text};
+use super::{Both, Limits, cluster, enumeration, plain, text};
 
 pub fn add(limits: &mut Limits) {
     for length in [0, 1, 2, 3, 4, 5, 31, 32, 33, 255, 256, 257, 4000] {
@@ -55,7 +55,10 @@ fn behind_a_number(limits: &mut Limits) {
     let data = front.clone().word(4).plain(b"abc").plain(&[1]);
     limits.refused("a length one too high", &tree, data, 21, 10);
     let data = front.clone().word(2).plain(b"ab").plain(b"c").plain(&[1]);
-    limits.refused("a length one too low", &tree, data, 24, 8);
+    limits.refused("a length one too low", &tree, data.clone(), 25, 9);
+    let judged = cluster(vec![plain(0x06), text(), enumeration(0x15, 2)]);
+    let what = "a length one too low, an enumeration behind";
+    limits.refused(what, &judged, data, 23, 8);
     let data = front.clone().word(5).plain(b"abc").plain(&[1]);
     limits.refused("a length two too high", &tree, data, 21, 2);
     let data = front.word(0x8000_0003).plain(b"abc").plain(&[1]);
