@@ -23,3 +23,4 @@ pub mod Back
 pub mod Carried
 pub mod Found
 pub mod Difference
+pub mod Numbers

@@ -78,7 +78,8 @@ record Sized (s : List ℕ) (f : ℕ → Outcome (List Token)) (k at b : ℕ) : 
   inner : next ≤ length s
 
 module _ (s : List ℕ) where
-  lies-here : (t : Tree) (at b : ℕ) (ts : List Token) → at ≤ length s → walk big t s at ≡ read b ts → Lies s at b (record { type = t; start = at })
+  -- the spot of a type whose data is walked
+  pub lies-here : (t : Tree) (at b : ℕ) (ts : List Token) → at ≤ length s → walk big t s at ≡ read b ts → Lies s at b (record { type = t; start = at })
   lies-here t at b ts h e =
       let o = holds-read e (goes-walk s big t at h) in
       record { stop = b; tokens = ts; walks = e; after = omega arith; order = o .order; before = omega arith; within = o .within }

@@ -1,4 +1,5 @@
--- What holds of an outcome wherever something was read: a law for each way that outcomes are made. Rests on the definitions alone.
+-- What holds of an outcome wherever something was read, and what wherever it was refused: a law for each way that outcomes are made. Rests on the
+-- definitions alone.
 use mathlib.Core.Path.{_≡_, refl, subst}
 use mathlib.Core.Bool.{Bool, true, false, cond}
 use Prim.Native.Nat.{ℕ}
@@ -52,3 +53,28 @@ holds-both (reading h) (reading g) = reading (h, g)
 pub holds-self : {A : Type 0} (o : Outcome A) → Holds (λ q x. o ≡ read q x) o
 holds-self (refused number place) = nothing
 holds-self (read q x) = found refl
+
+-- where it was refused, P holds of the number and the place
+pub data Refuses {A : Type 0} (P : ℕ → ℕ → Type 0) : Outcome A → Type 0 where
+  accepted : {q : ℕ} {x : A} → Refuses P (read q x)
+  refusing : {number place : ℕ} → P number place → Refuses P (refused number place)
+
+module _ {P : ℕ → ℕ → Type 0} where
+  -- P holds of the refusal
+  pub refuses-so : {A : Type 0} {o : Outcome A} {number place : ℕ} → o ≡ refused number place → Refuses P o → P number place
+  refuses-so {A} e h = here (subst (λ (y : Outcome A). Refuses P y) e h)
+    where
+      here : {number place : ℕ} → Refuses {A = A} P (refused number place) → P number place
+      here (refusing h) = h
+
+  -- a test: the refusal may rest on it, and so may what follows
+  pub refuses-require : {A : Type 0} (b : Bool) (number place : ℕ) {o : Outcome A} → (b ≡ false → P number place) → (b ≡ true → Refuses P o)
+      → Refuses P (require b number place o)
+  refuses-require true number place g f = f refl
+  refuses-require false number place g f = refusing (g refl)
+
+  -- where nothing is asked of what was read
+  pub refuses-and : {A B : Type 0} {o : Outcome A} {next : ℕ → A → Outcome B} → Refuses P o → ((q : ℕ) (x : A) → Refuses P (next q x))
+      → Refuses P (andThen o next)
+  refuses-and (refusing h) g = refusing h
+  refuses-and accepted g = g _ _

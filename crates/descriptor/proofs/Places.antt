@@ -1,12 +1,12 @@
--- The number of a refusal is never 0, so that 0 means accepted; and its place lies within the bytes: no further than they are long,
--- where they are no longer than is carried.
+-- The number of a refusal is one of 1 to 12, never 0, so that 0 means accepted; and its place lies within the bytes: no further than they are
+-- long, where they are no longer than is carried.
 -- Rests on the definitions of the check and on where its readings end.
 use mathlib.Core.Path.{_≡_, refl, subst}
 use mathlib.Core.Bool.{Bool, true, false, cond, not, _&&_, _||_}
 use mathlib.Core.List.{List}
 use Prim.Native.Nat.{ℕ, zero, suc, _+_, _-_, _*_, _%_, _≤_, _<_}
 use native.Mathlib.Omega.{arith}
-use borrow.Author.Tests.{leb-true, ltb-true}
+use borrow.Author.Tests.{leb-true}
 use lib.Dec.{leb, ltb, eqb}
 use lib.ListN.{length, getD}
 use Rattle.number.specs.Endian.{be}
@@ -19,21 +19,21 @@ use Rattle.descriptor.specs.Places.{codePlace, overrunPlace, countPlace,
 use Rattle.descriptor.specs.Outcome.{Outcome, refused, read, andThen, require}
 use Rattle.descriptor.specs.Check.{sizeFits, headerAt, countAt, runAt, itemAt, itemsAt, fieldsRead, judged, baseFits, wordFits, contentsAt, fillAt, filledAt, fieldsAt, membersAt, nameAt, nodeAt, treeAt, checked}
 use Rattle.descriptor.proofs.Outcomes.{Holds, nothing, reading}
-use Rattle.descriptor.proofs.Sizes.{Ends, header-fits, fields-end, tree-ends}
+use Rattle.descriptor.proofs.Sizes.{Ends, and-true, header-fits, fields-end, tree-ends}
 
--- where the outcome is a refusal, its number is above 0 and its place is no further than `most`
+-- where the outcome is a refusal, its number is one of 1 to 12 and its place is no further than `most`
 pub data Placed {A : Type 0} (most : ℕ) : Outcome A → Type 0 where
   accepted : {q : ℕ} {x : A} → Placed most (read q x)
-  placed : {number place : ℕ} → ltb 0 number ≡ true → place ≤ most → Placed most (refused number place)
+  placed : {number place : ℕ} → between 1 12 number ≡ true → place ≤ most → Placed most (refused number place)
 
 -- a test that refuses at such a place; what follows may rest on it
-pub placed-test : {A : Type 0} {most : ℕ} (b : Bool) (number place : ℕ) {o : Outcome A} → ltb 0 number ≡ true → place ≤ most → (b ≡ true → Placed most o)
+pub placed-test : {A : Type 0} {most : ℕ} (b : Bool) (number place : ℕ) {o : Outcome A} → between 1 12 number ≡ true → place ≤ most → (b ≡ true → Placed most o)
     → Placed most (require b number place o)
 placed-test true number place a h f = f refl
 placed-test false number place a h f = placed a h
 
 -- the same where it doesn't
-pub placed-require : {A : Type 0} {most : ℕ} (b : Bool) (number place : ℕ) {o : Outcome A} → ltb 0 number ≡ true → place ≤ most → Placed most o
+pub placed-require : {A : Type 0} {most : ℕ} (b : Bool) (number place : ℕ) {o : Outcome A} → between 1 12 number ≡ true → place ≤ most → Placed most o
     → Placed most (require b number place o)
 placed-require b number place a h f = placed-test b number place a h (λ _. f)
 
@@ -180,15 +180,19 @@ all-placed s =
     placed-require (eqb q (length s)) 12 q refl (omega (arith, ends .within, leb-true)) accepted))
 
 module _ (s : List ℕ) (number place : ℕ) (e : checked s ≡ refused number place) where
-  both : (0 < number) × (place ≤ descriptorLimit)
+  both : (between 1 12 number ≡ true) × (place ≤ descriptorLimit)
   both = of (subst (λ (o : Outcome Tree). Placed descriptorLimit o) e (all-placed s))
     where
-      of : Placed {A = Tree} descriptorLimit (refused number place) → (0 < number) × (place ≤ descriptorLimit)
-      of (placed a h) = (ltb-true 0 number a, h)
+      of : Placed {A = Tree} descriptorLimit (refused number place) → (between 1 12 number ≡ true) × (place ≤ descriptorLimit)
+      of (placed a h) = (a, h)
 
-  -- a refusal's number is above 0
+  -- a refusal's number is one of 1 to 12
+  pub refused-range : between 1 12 number ≡ true
+  refused-range = both .0
+
+  -- so it is above 0
   pub refused-number : 0 < number
-  refused-number = both .0
+  refused-number = leb-true 1 number (and-true (leb 1 number) (leb number 12) refused-range .0)
 
   -- and its place lies in a descriptor
   pub refused-place : place ≤ descriptorLimit
