@@ -11,10 +11,11 @@ use lib.Dec.{leb}
 use lib.ListN.{length, drop, length-append, length-drop}
 use lib.Seq.{drop-append-seam}
 use Rattle.descriptor.specs.Encoding.{encode}
-use Rattle.descriptor.specs.Outcome.{Outcome, refused, read, judge, Verdict, denied, granted, settle}
+use Rattle.descriptor.specs.Outcome.{Outcome, judge, Verdict, denied, granted, settle}
 use Rattle.descriptor.specs.Check.{checked}
 use Rattle.descriptor.specs.Answers.{accepted}
 use Rattle.descriptor.specs.Output.{Written, unwritten, writtenTo}
+use Rattle.descriptor.proofs.Outcomes.{judge-so}
 use Rattle.canonical.specs.Normal.{normalForm}
 use Rattle.resolution.specs.Record.{recordBytes, resolved}
 
@@ -48,8 +49,8 @@ written-framed out bytes = fits (leb (length bytes) (length out)) refl
 -- an answer that a reading decides
 pub judge-framed : {A : Type 0} (out : List ℕ) (input : ℕ) (o : Outcome A) (w : A → Written) → ((x : A) → Framed out (w x))
     → Framed out (judge (unwritten out) input o w)
-judge-framed out input (refused number place) w framed = unwritten-framed out number input place
-judge-framed out input (read q x) w framed = framed x
+judge-framed out input o w framed =
+    judge-so (Framed out) (unwritten out) input o w (λ number place _. unwritten-framed out number input place) (λ _ x _. framed x)
 
 -- the normal form of any bytes d
 pub normal-framed : (d out : List ℕ) → Framed out (normalForm d out)

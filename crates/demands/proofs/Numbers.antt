@@ -20,7 +20,7 @@ use Rattle.descriptor.specs.Answers.{refusal, accepted, noRows, descriptorCheck
 use Rattle.descriptor.specs.Output.{Written, unwritten, writtenTo}
 use Rattle.descriptor.specs.declared.answer.Answer.{Answer}
 use Rattle.descriptor.proofs.Steps.{impossible}
-use Rattle.descriptor.proofs.Outcomes.{holds-read, Refuses, accepted as reading, refusing, refuses-so, refuses-require, refuses-and}
+use Rattle.descriptor.proofs.Outcomes.{holds-read, judge-so, Refuses, accepted as reading, refusing, refuses-so, refuses-require, refuses-and}
 use Rattle.descriptor.proofs.Sizes.{and-true}
 use Rattle.descriptor.proofs.Places.{refused-range}
 use Rattle.canonical.specs.Equality.{sameTree, notCompared, comparison}
@@ -60,13 +60,6 @@ only {n} {number} e = here {low = n} {high = n} {number = number} (rw (e, le-leb
 pub data Answered (ns : List Numbers) : Answer → Type 0 where
   accepts : {place : ℕ} → Answered ns (accepted place)
   refuses : {number input place : ℕ} → OneOf ns number input → Answered ns (refusal number input place)
-
--- what holds of an answer that a reading decides
-judge-so : {A B : Type 0} (P : B → Type 0) (refuse : ℕ → ℕ → ℕ → B) (input : ℕ) (o : Outcome A) (accept : A → B)
-    → ((number place : ℕ) → o ≡ refused number place → P (refuse number input place)) → ((q : ℕ) (x : A) → o ≡ read q x → P (accept x))
-    → P (judge refuse input o accept)
-judge-so P refuse input (refused number place) accept f g = f number place refl
-judge-so P refuse input (read q x) accept f g = g q x refl
 
 -- the numbers of a descriptor's refusals, by the input that it is; those of data's; and that of an output too small
 abbrev pub ofDescriptor : ℕ → Numbers
@@ -277,8 +270,8 @@ never n none (refuses i) e = out i e none
     out (here {low} {high} {number} {ns = ns} h) e k = impossible (subst (λ (b : Bool). (not b && lacks ns (suc n)) ≡ true) (subst (λ (x : ℕ). between low high x ≡ true) e h) k)
     out (further {n = numbers low high input} i) e k = out i e (and-true (not (between low high (suc n))) _ k .1)
 
--- "24 is no longer given."
-pub no-24 : (d r s out path : List ℕ) (o : Order)
+-- "24 is no longer given": whatever bytes, steps and integers they are lent, no entry answers with it
+pub no-24 : (d r s out path : List ℕ) (o : Order) (a b : ℤ) (c e : ℕ) (f g : ℤ) (h i : ℕ)
     → (descriptorCheck d .answer .number ≢ 24)
     × (comparison d r .answer .number ≢ 24)
     × (normalForm d out .answer .number ≢ 24)
@@ -287,8 +280,9 @@ pub no-24 : (d r s out path : List ℕ) (o : Order)
     × (located d s path .answer .number ≢ 24)
     × (readValue d s path .answer .number ≢ 24)
     × (resolved d r s out .answer .number ≢ 24)
+    × (difference a b c e f g h i .answer .number ≢ 24)
 unfolding lacks
-no-24 d r s out path o = (
+no-24 d r s out path o a b c e f g h i = (
   never 23 refl (check-numbers d),
   never 23 refl (compare-numbers d r),
   never 23 refl (normal-numbers d out),
@@ -297,4 +291,5 @@ no-24 d r s out path o = (
   never 23 refl (part-numbers d s path),
   never 23 refl (value-numbers d s path),
   never 23 refl (record-numbers d r s out),
+  never 23 refl (difference-numbers a b c e f g h i),
 )

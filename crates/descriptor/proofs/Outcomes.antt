@@ -3,7 +3,7 @@
 use mathlib.Core.Path.{_≡_, refl, subst}
 use mathlib.Core.Bool.{Bool, true, false, cond}
 use Prim.Native.Nat.{ℕ}
-use Rattle.descriptor.specs.Outcome.{Outcome, refused, read, andThen, require}
+use Rattle.descriptor.specs.Outcome.{Outcome, refused, read, andThen, require, judge}
 
 -- where something was read, P holds of the next byte and of what was read
 pub data Holds {A : Type 0} (P : ℕ → A → Type 0) : Outcome A → Type 0 where
@@ -78,3 +78,10 @@ module _ {P : ℕ → ℕ → Type 0} where
       → Refuses P (andThen o next)
   refuses-and (refusing h) g = refusing h
   refuses-and accepted g = g _ _
+
+-- what holds of an answer that a reading decides
+pub judge-so : {A B : Type 0} (P : B → Type 0) (refuse : ℕ → ℕ → ℕ → B) (input : ℕ) (o : Outcome A) (accept : A → B)
+    → ((number place : ℕ) → o ≡ refused number place → P (refuse number input place)) → ((q : ℕ) (x : A) → o ≡ read q x → P (accept x))
+    → P (judge refuse input o accept)
+judge-so P refuse input (refused number place) accept f g = f number place refl
+judge-so P refuse input (read q x) accept f g = g q x refl
