@@ -17,16 +17,17 @@
  *        2  under 4 bytes left before the parent's end                      start
  *        3  size word's high bit set                                        start
  *        4  size odd, under 4, or past the parent's end                     start
- *        5  code not carried, or a time stamp's subtype not 6               start
+ *        5  code not carried, or a time stamp's subtype not 6               low code byte
  *        6  depth 9, the top being depth 1                                  start
  *        7  row 257                                                         start
- *        8  body longer than the size allows                                start
- *        9  a count outside its limits: 1 to 4 dimensions, 1 to 9 unit      start
+ *        8  body longer than the size allows                                end
+ *        9  a count outside its limits: 1 to 4 dimensions, 1 to 9 unit      count word
  *           pairs, at least 1 enumeration item or cluster member
- *       10  wrong length or dimension word, base index over 8,              start
- *           enumeration fill byte not zero, array in array, anything
- *           but its cluster in a time stamp
- *       11  what is left is no name                                         start
+ *       10  wrong length or dimension word, or base index over 8;           first wrong word
+ *           enumeration fill byte not zero;                                 that byte
+ *           array in array;                                                 inner low code byte
+ *           anything but its cluster in a time stamp                        start of the time stamp
+ *       11  what is left is no name                                         first byte left
  *       12  bytes after the top descriptor                                  its size
  *       20  data over 65,536 bytes                                          0
  *       21  data ends inside a piece                                        piece start
@@ -45,9 +46,11 @@
  *       44  the writer's member of this name is of another type (input 2)   reader's member
  *       50  output too small (input 4)                                      length needed
  *
- * "Start" is the first byte of the descriptor at fault, counted from the first byte lent. For the top descriptor the parent's end is
- * the end of the lent bytes. Where several numbers fit, the answer is the first: 1; then at each descriptor, parent before child, 2 to
- * 7 and array in array, then its body (count word missing 8, count 9, the rest missing 8, contents 10; an enumeration in byte order, 8
+ * "Start" is the first byte of the descriptor at fault, counted from the first byte lent; its "low code byte" is the fourth from there, for
+ * another subtype of a time stamp too; its "end" is its start and its size together: the first byte after it, or the number of lent bytes.
+ * A word's place is its first byte. What is left, 11, starts after the body and the descriptors in it. For the top descriptor the parent's
+ * end is the end of the lent bytes. Where several numbers fit, the answer is the first: 1; then at each descriptor, parent before child, 2
+ * to 7 and array in array, then its body (count word missing 8, count 9, the rest missing 8, contents 10; an enumeration in byte order, 8
  * at the first string that runs over; a time stamp's subtype missing 8, another one 5), then the descriptors in it, then what else a time
  * stamp holds, 10, then 11; last 12.
  *

@@ -52,15 +52,41 @@ DESCRIPTORS: Dict[int, Tuple[bytes, int]] = {
     2: (b"", 0),
     3: (raw("8004 0003"), 0),
     4: (raw("0005 0003 00"), 0),
-    5: (raw("0004 0032"), 0),
+    5: (raw("0004 0032"), 3),
     6: (nested(8), 48),
     7: (cluster(*[WORD] * 256), 6 + 255 * 4),
-    8: (raw("0004 0030"), 0),
-    9: (raw("0006 0050 0000"), 0),
-    10: (raw("0018 0040 0001 FFFF FFFF") + ARRAY, 10),
-    11: (raw("0006 0003 0261"), 0),
+    8: (raw("0004 0030"), 4),
+    9: (raw("0006 0050 0000"), 4),
+    10: (raw("0018 0040 0001 FFFF FFFF") + ARRAY, 13),
+    11: (raw("0006 0003 0261"), 4),
     12: (WORD + b"\0", 4),
 }
+
+#: Descriptors that are refused, as a member before another: the number, and how far behind the member's start the place is.
+MEMBERS: List[Tuple[bytes, int, int]] = [
+    (raw("0004 0032"), 5, 3),
+    (raw("001C 0054 0005") + bytes(22), 5, 3),
+    (raw("0004 0050"), 8, 4),
+    (raw("0006 0030 FFFF"), 8, 6),
+    (raw("0008 0015 0002 0161"), 8, 8),
+    (raw("000A 0019 0002 0009 0001"), 8, 10),
+    (raw("0006 0040 0001"), 8, 6),
+    (raw("0004 0054"), 8, 4),
+    (raw("0006 0017 0000"), 9, 4),
+    (raw("0006 001E 000A"), 9, 4),
+    (raw("0006 0040 0005"), 9, 4),
+    (raw("0008 0030 FFFF FFFE"), 10, 4),
+    (raw("0012 0040 0002 FFFF FFFF 0000 0000") + WORD, 10, 10),
+    (raw("0012 0019 0003 0008 0009 0009 0001 0009 0001"), 10, 10),
+    (raw("000A 0015 0001 0261 6201"), 10, 9),
+    (raw("0018 0040 0001 FFFF FFFF") + ARRAY, 10, 13),
+    (raw("000A 0054 0006") + WORD, 10, 0),
+    (raw("000E 0054 0006 0008 0030 FFFF FFFE"), 10, 10),
+    (raw("0006 0003 0261"), 11, 4),
+    (raw("0008 0003 0261 6201"), 11, 4),
+    (raw("000A 0030 FFFF FFFF 0261"), 11, 8),
+    (raw("000C 0050 0001") + WORD + raw("0261"), 11, 10),
+]
 
 #: The same for data, with the descriptor that it stands under.
 DATAS: Dict[int, Tuple[bytes, bytes, int]] = {
@@ -246,6 +272,10 @@ class Refusals(Case):
             self.refused(first, kerbcanopy.from_little_endian, descriptor, b"")
             self.refused(first, kerbcanopy.read_record, descriptor, b"", b"")
             self.refused(second, kerbcanopy.read_record, RIG, descriptor, b"")
+
+    def test_of_members(self) -> None:
+        for member, number, behind in MEMBERS:
+            self.refused((number, 1, 6 + behind), kerbcanopy.check_descriptor, cluster(member, WORD))
 
     def test_of_data(self) -> None:
         for number, (descriptor, data, place) in DATAS.items():

@@ -1,4 +1,6 @@
 pub mod Accepted
+pub mod Wrong
+pub mod Pointed
 pub mod Equal
 pub mod Rows
 pub mod Frame

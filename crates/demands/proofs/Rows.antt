@@ -106,7 +106,7 @@ mutual
 
 module _ (d : List ℕ) where
   -- the two numbers of a name that was read from `at` on
-  name-said : (p stop at : ℕ) → stop ≤ length d → Holds (λ q m. NameSaid d (namePlace at m) (nameLength m) m) (nameAt d p stop at)
+  name-said : (p stop at : ℕ) → stop ≤ length d → Holds (λ q m. NameSaid d (namePlace at m) (nameLength m) m) (nameAt d stop at)
   unfolding nameAt namePlace nameLength NameSaid
   name-said p stop at inside =
       holds-cond (eqb at stop) (λ _. found (refl, refl))

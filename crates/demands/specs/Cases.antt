@@ -94,8 +94,8 @@ pub cases : (descriptorCheck p1 ≡ withRows 1 (row 0x03 0 4 1 0 0 0 ∷ []))
     × (descriptorCheck p5 ≡ withRows 3 (row 0x50 0 14 1 2 0 0 ∷ row 0x02 6 4 2 0 0 0 ∷ row 0x07 10 4 2 0 0 0 ∷ []))
     -- P6: one row, count 3
     × (descriptorCheck p6 ≡ withRows 1 (row 0x15 0 22 1 3 0 0 ∷ []))
-    -- P7: 10 at 10
-    × (descriptorCheck p7 ≡ noRows 10 1 10)
+    -- P7: 10 at 13, the low code byte of the inner array (document 02, CR 3)
+    × (descriptorCheck p7 ≡ noRows 10 1 13)
     -- P8: 0004 4003 equals P1; 0004 0007 doesn't
     × (comparison (0x00 ∷ 0x04 ∷ 0x40 ∷ 0x03 ∷ []) p1 ≡ equalIs true)
     × (comparison (0x00 ∷ 0x04 ∷ 0x00 ∷ 0x07 ∷ []) p1 ≡ equalIs false)

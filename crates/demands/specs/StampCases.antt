@@ -29,6 +29,7 @@ use Rattle.resolution.specs.Record.{membersFrom, writerFields, isAmong, readerN
 use Rattle.timestamp.specs.Difference.{bitsOf, isSigned, tooFar, difference}
 use Rattle.timestamp.specs.declared.Difference.{Difference}
 use Rattle.demands.specs.Cases.{p5, row, withRows}
+use Rattle.demands.specs.Refusals.{copies}
 
 -- a descriptor with nothing after its header: 0004 00cc
 abbrev bare : ℕ → List ℕ
@@ -77,9 +78,9 @@ at number place = noRows number 1 place
 
 pub stamp-refusals : (descriptorCheck (stamp 0x1C 6 (four 3 3 3 3)) ≡ at 10 0)
     × (descriptorCheck (stamp 0x1C 6 (four 7 7 3 3)) ≡ at 10 0)
-    -- "another subtype is 5, judged after 8", "a missing subtype word is 8"
-    × (descriptorCheck (stamp 0x1C 5 (four 3 3 7 7)) ≡ at 5 0)
-    × (descriptorCheck (0x00 ∷ 0x04 ∷ 0x00 ∷ 0x54 ∷ []) ≡ at 8 0)
+    -- "another subtype is 5, judged after 8", "a missing subtype word is 8"; their places are the low code byte and the end (CR 3)
+    × (descriptorCheck (stamp 0x1C 5 (four 3 3 7 7)) ≡ at 5 3)
+    × (descriptorCheck (0x00 ∷ 0x04 ∷ 0x00 ∷ 0x54 ∷ []) ≡ at 8 4)
     -- "subtype there, child missing": 2, where the child would stand
     × (descriptorCheck (stamp 0x06 6 []) ≡ at 2 6)
     -- something else, alone
@@ -90,26 +91,32 @@ pub stamp-refusals : (descriptorCheck (stamp 0x1C 6 (four 3 3 3 3)) ≡ at 10 0)
     -- the cluster has a name
     × (descriptorCheck (stamp 0x1E 6 (0x00 ∷ 0x18 ∷ 0x00 ∷ 0x50 ∷ 0x00 ∷ 0x04 ∷ (bare 3 ++ (bare 3 ++ (bare 7 ++ (bare 7 ++ (0x01 ∷ 0x41 ∷ []))))))) ≡ at 10 0)
     -- "judged after the inner descriptors and before 11": bytes after the right cluster that are no name, and after a wrong one
-    × (descriptorCheck (stamp 0x1E 6 (four 3 3 7 7) ++ (0x05 ∷ 0x41 ∷ [])) ≡ at 11 0)
+    × (descriptorCheck (stamp 0x1E 6 (four 3 3 7 7) ++ (0x05 ∷ 0x41 ∷ [])) ≡ at 11 28)
     × (descriptorCheck (stamp 0x1E 6 (four 3 3 7 3) ++ (0x05 ∷ 0x41 ∷ [])) ≡ at 10 0)
     -- the last integer is another, and one that is refused itself: that comes first
     × (descriptorCheck (stamp 0x1C 6 (four 3 3 7 2)) ≡ at 10 0)
-    × (descriptorCheck (stamp 0x1C 6 (four 3 3 7 0)) ≡ at 5 24)
+    × (descriptorCheck (stamp 0x1C 6 (four 3 3 7 0)) ≡ at 5 27)
     -- "a 54 at depth 7 is 6 at its first integer"
     × (descriptorCheck (around 0x40 (around 0x3A (around 0x34 (around 0x2E (around 0x28 (around 0x22 plainStamp)))))) ≡ at 6 48)
     -- "at the outer start", and the places of 5 and 8, where it stands in a cluster
     × (descriptorCheck (around 0x22 (stamp 0x1C 6 (four 3 3 3 3))) ≡ at 10 6)
-    × (descriptorCheck (around 0x22 (stamp 0x1C 5 (four 3 3 7 7))) ≡ at 5 6)
-    × (descriptorCheck (around 0x0A (bare 0x54)) ≡ at 8 6)
+    × (descriptorCheck (around 0x22 (stamp 0x1C 5 (four 3 3 7 7))) ≡ at 5 9)
+    × (descriptorCheck (around 0x0A (bare 0x54)) ≡ at 8 10)
     -- the subtype comes before what stands inside: nothing, or what is refused itself
-    × (descriptorCheck (stamp 0x06 5 []) ≡ at 5 0)
-    × (descriptorCheck (stamp 0x1C 5 (four 3 3 7 0)) ≡ at 5 0)
+    × (descriptorCheck (stamp 0x06 5 []) ≡ at 5 3)
+    × (descriptorCheck (stamp 0x1C 5 (four 3 3 7 0)) ≡ at 5 3)
     -- whatever stands inside is judged by itself before 10, no cluster too
-    × (descriptorCheck (stamp 0x0A 6 (bare 0)) ≡ at 5 6)
+    × (descriptorCheck (stamp 0x0A 6 (bare 0)) ≡ at 5 9)
+    -- a wrong word inside has its own place
+    × (descriptorCheck (stamp 0x0E 6 (0x00 ∷ 0x08 ∷ 0x00 ∷ 0x30 ∷ 0xFF ∷ 0xFF ∷ 0xFF ∷ 0xFE ∷ [])) ≡ at 10 10)
     -- another subtype's 5 comes after 6
     × (descriptorCheck (around 0x4C (around 0x46 (around 0x40 (around 0x3A (around 0x34 (around 0x2E (around 0x28 (around 0x22 (stamp 0x1C 5 (four 3 3 7 7)))))))))) ≡ at 6 48)
-unfolding descriptorCheck checked treeAt headerAt kindOf fieldsAt fieldsRead countAt runAt itemAt itemsAt pairsAt contentsAt judged filledAt fillAt membersAt nodeAt nameAt childCount countOf itemsSize fieldsSize nameSize treeSize forestSize rowCount forestRows rowOf rowsOf forestRowsOf namePlace nameLength isUnnamed areUnnamed isStampCluster isStampInside be
-stamp-refusals = (refl, refl, refl, refl, refl, refl, refl, refl, refl, refl, refl, refl, refl, refl, refl, refl, refl, refl, refl, refl, refl)
+    -- and after 7: the 257th row
+    × (descriptorCheck (0x04 ∷ 0x1E ∷ 0x00 ∷ 0x50 ∷ 0x01 ∷ 0x00 ∷ (copies 255 (bare 3) ++ stamp 0x1C 5 (four 3 3 7 7))) ≡ at 7 1026)
+    -- its end is not its parent's
+    × (descriptorCheck (0x00 ∷ 0x0E ∷ 0x00 ∷ 0x50 ∷ 0x00 ∷ 0x02 ∷ (bare 0x54 ++ bare 3)) ≡ at 8 10)
+unfolding descriptorCheck checked treeAt headerAt kindOf fieldsAt fieldsRead countAt runAt itemAt itemsAt pairsAt contentsAt judged filledAt fillAt membersAt nodeAt nameAt childCount countOf itemsSize fieldsSize nameSize treeSize forestSize rowCount forestRows rowOf rowsOf forestRowsOf namePlace nameLength isUnnamed areUnnamed isStampCluster isStampInside copies be
+stamp-refusals = (refl, refl, refl, refl, refl, refl, refl, refl, refl, refl, refl, refl, refl, refl, refl, refl, refl, refl, refl, refl, refl, refl, refl, refl)
 
 -- reserved bytes don't matter inside either; a name does
 pub stamp-equality : (comparison plainStamp (0x00 ∷ 0x1C ∷ 0x12 ∷ 0x54 ∷ 0x00 ∷ 0x06 ∷ 0x00 ∷ 0x16 ∷ 0x34 ∷ 0x50 ∷ 0x00 ∷ 0x04 ∷ (0x00 ∷ 0x04 ∷ 0x56 ∷ 0x03 ∷ (bare 3 ++ (bare 7 ++ bare 7)))) .equal ≡ true)

@@ -78,12 +78,12 @@ module _ (s : List ℕ) (p stop : ℕ) (within : stop ≤ length s) where
   unfolding fieldsRead contentsStart countOf childCount fieldsSize insideBy hasCount
   read-agrees plain = found (record { same = let z : insideAt p empty ≡ bodyAt p = omega arith in ap (λ (n : ℕ). leafInside n) z; word = λ e. impossible e })
   read-agrees enumeration =
-      holds-andThen (count-fits s p (bodyAt p) stop countLimit) (λ next k c.
+      holds-andThen (count-fits s (bodyAt p) stop countLimit) (λ next k c.
       holds-andThen (items-end s p stop within k next (c .within)) (λ last xs i.
       let n : length xs ≡ be s (bodyAt p) 2 = i .1 ∙ c .word in
       found (record { same = λ j. record { at = bodyAt p + 2; count = n j; children = 0 }; word = λ _. omega (arith, c .next, c .within) })))
   read-agrees quantity =
-      holds-andThen (run-fits s p (bodyAt p) stop pairLimit) (λ last k r.
+      holds-andThen (run-fits s (bodyAt p) stop pairLimit) (λ last k r.
       let n : length (pairsAt s k (bodyAt p + 2)) ≡ be s (bodyAt p) 2 = length-pairsAt s k (bodyAt p + 2) ∙ r .word in
       let z : (j : ℕ) → bodyAt p + (2 + 4 * j) ≡ bodyAt p + 2 + 4 * j = λ j. omega arith in
       found (record {
@@ -92,14 +92,14 @@ module _ (s : List ℕ) (p stop : ℕ) (within : stop ≤ length s) where
       }))
   read-agrees string = holds-require (leb (bodyAt p + 4) stop) _ _ (λ _. found (record { same = refl; word = λ e. impossible e }))
   read-agrees array =
-      holds-andThen (run-fits s p (bodyAt p) stop dimensionLimit) (λ last k r.
+      holds-andThen (run-fits s (bodyAt p) stop dimensionLimit) (λ last k r.
       let z : (j : ℕ) → bodyAt p + (2 + 4 * j) ≡ bodyAt p + 2 + 4 * j = λ j. omega arith in
       found (record {
         same = λ i. record { at = (z k ∙ ap (λ (j : ℕ). bodyAt p + 2 + 4 * j) (r .word)) i; count = r .word i; children = 1 };
         word = λ _. omega (arith, r .next, r .within);
       }))
   read-agrees cluster =
-      holds-andThen (count-fits s p (bodyAt p) stop countLimit) (λ last k c.
+      holds-andThen (count-fits s (bodyAt p) stop countLimit) (λ last k c.
       found (record { same = λ i. record { at = bodyAt p + 2; count = c .word i; children = c .word i }; word = λ _. omega (arith, c .next, c .within) }))
   read-agrees stamp =
       holds-require (leb (bodyAt p + 2) stop) _ _ (λ _.
@@ -110,14 +110,14 @@ module _ (s : List ℕ) (p stop : ℕ) (within : stop ≤ length s) where
   unfolding fieldsAt
   fields-agree k =
       holds-andThen (read-agrees k) (λ next b a.
-      holds-andThen (holds-self (contentsAt s p (bodyAt p) b)) (λ _ _ _. holds-andThen (holds-self (filledAt s p stop next b)) (λ last _ _. found a)))
+      holds-andThen (holds-self (contentsAt s (bodyAt p) b)) (λ _ _ _. holds-andThen (holds-self (filledAt s p stop next b)) (λ last _ _. found a)))
 
   -- an enumeration's items, where they were read
   pub record ItemsSeen (b : Fields) : Type 0 where
     pub last : ℕ
     pub all : List (List ℕ)
     pub is : b ≡ items all
-    pub eq : itemsAt s p stop (be s (bodyAt p) 2) (bodyAt p + 2) ≡ read last all
+    pub eq : itemsAt s stop (be s (bodyAt p) 2) (bodyAt p + 2) ≡ read last all
     pub ends : last ≡ bodyAt p + 2 + itemsSize all
     pub room : bodyAt p + 2 ≤ stop
 
@@ -125,17 +125,17 @@ module _ (s : List ℕ) (p stop : ℕ) (within : stop ≤ length s) where
   unfolding fieldsAt fieldsRead
   items-seen =
       holds-andThen
-      (holds-andThen (count-fits s p (bodyAt p) stop countLimit) (λ next k c.
-      holds-andThen (holds-both (items-end s p stop within k next (c .within)) (holds-self (itemsAt s p stop k next))) (λ last xs i.
+      (holds-andThen (count-fits s (bodyAt p) stop countLimit) (λ next k c.
+      holds-andThen (holds-both (items-end s p stop within k next (c .within)) (holds-self (itemsAt s stop k next))) (λ last xs i.
       found {P = λ q b. ItemsSeen b} (record {
         last = last;
         all = xs;
         is = refl;
-        eq = (λ j. itemsAt s p stop (sym (c .word) j) (sym (c .next) j)) ∙ i .1;
+        eq = (λ j. itemsAt s stop (sym (c .word) j) (sym (c .next) j)) ∙ i .1;
         ends = omega (arith, i .0 .0 .at, c .next);
         room = omega (arith, c .next, c .within);
       })))) (λ next b a.
-      holds-andThen (holds-self (contentsAt s p (bodyAt p) b)) (λ _ _ _. holds-andThen (holds-self (filledAt s p stop next b)) (λ last _ _. found a)))
+      holds-andThen (holds-self (contentsAt s (bodyAt p) b)) (λ _ _ _. holds-andThen (holds-self (filledAt s p stop next b)) (λ last _ _. found a)))
 
 -- fields without items are as long as their words say
 unfoldable isItems : Fields → Bool
@@ -161,11 +161,11 @@ read-items : (k : Kind) (s : List ℕ) (p at stop : ℕ) → Holds (λ q b. isIt
 unfolding fieldsRead isItems
 read-items plain s p at stop = found refl
 read-items enumeration s p at stop =
-    holds-andThen (holds-self (countAt s p at stop countLimit)) (λ next k _. holds-andThen (holds-self (itemsAt s p stop k next)) (λ _ xs _. found refl))
-read-items quantity s p at stop = holds-andThen (holds-self (runAt s p at stop pairLimit)) (λ _ k _. found refl)
+    holds-andThen (holds-self (countAt s at stop countLimit)) (λ next k _. holds-andThen (holds-self (itemsAt s stop k next)) (λ _ xs _. found refl))
+read-items quantity s p at stop = holds-andThen (holds-self (runAt s at stop pairLimit)) (λ _ k _. found refl)
 read-items string s p at stop = holds-require (leb (at + 4) stop) _ _ (λ _. found refl)
-read-items array s p at stop = holds-andThen (holds-self (runAt s p at stop dimensionLimit)) (λ _ k _. found refl)
-read-items cluster s p at stop = holds-andThen (holds-self (countAt s p at stop countLimit)) (λ _ k _. found refl)
+read-items array s p at stop = holds-andThen (holds-self (runAt s at stop dimensionLimit)) (λ _ k _. found refl)
+read-items cluster s p at stop = holds-andThen (holds-self (countAt s at stop countLimit)) (λ _ k _. found refl)
 read-items stamp s p at stop = holds-require (leb (at + 2) stop) _ _ (λ _. holds-require (eqb (be s at 2) stampSubtype) _ _ (λ _. found refl))
 read-items unknown s p at stop = nothing
 
@@ -173,7 +173,7 @@ fields-items : (k : Kind) (s : List ℕ) (p at stop : ℕ) → Holds (λ q b. is
 unfolding fieldsAt
 fields-items k s p at stop =
     holds-andThen (read-items k s p at stop) (λ next b a.
-    holds-andThen (holds-self (contentsAt s p at b)) (λ _ _ _. holds-andThen (holds-self (filledAt s p stop next b)) (λ last _ _. found a)))
+    holds-andThen (holds-self (contentsAt s at b)) (λ _ _ _. holds-andThen (holds-self (filledAt s p stop next b)) (λ last _ _. found a)))
 
 module _ (s : List ℕ) (p : ℕ) (st : Stands s p) where
   abbrev pub it : Seen s p

@@ -58,7 +58,7 @@ tree-rows s (suc d) a end p n =
     (members-rows (λ q m. treeAt d s (isArray (kindOf (h .code))) (p + h .size) q m) (λ q m. tree-rows s d (isArray (kindOf (h .code))) (p + h .size) q m)
     (childCount b) at (n + 1) (omega (arith, fits .rows))) (λ next ts rows.
     holds-require (insideFits (kindOf (h .code)) ts) _ _ (λ _.
-    holds-andThen (holds-self (nameAt s p (p + h .size) next)) (λ last name _. found (omega arith))))))
+    holds-andThen (holds-self (nameAt s (p + h .size) next)) (λ last name _. found (omega arith))))))
 
 drop-replicate : {A : Type 0} (k n : ℕ) (a : A) → drop k (replicate n a) ≡ replicate (n - k) a
 drop-replicate zero n a = ap (λ (j : ℕ). replicate j a) (sym (sub-zero n))

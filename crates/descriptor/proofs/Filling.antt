@@ -19,7 +19,6 @@ use Rattle.descriptor.specs.Stamp.{stampSubtype}
 use Rattle.descriptor.specs.Outcome.{Outcome, refused, read}
 use Rattle.descriptor.specs.Check.{fieldsRead, contentsAt, filledAt, fieldsAt, nameAt}
 use Rattle.descriptor.specs.Table.{namePlace, nameLength, rowOf, rowsOf, forestRowsOf}
-use Rattle.descriptor.specs.Places.{restPlace}
 use Rattle.descriptor.specs.inner.Standing.{standing, standingRow, isRead, nextOf, forestOf, fieldsOf, shapeOf}
 use Rattle.descriptor.specs.inner.Filling.{rowRead, ahead, RowPre, TablePre, filled}
 use Rattle.descriptor.specs.declared.inside.Inside.{Inside}
@@ -94,13 +93,13 @@ afterTree left t tree = record {
 
 -- a header, fields, children and a name make the row
 pub name-numbers : (s : List ℕ) (p stop at : ℕ) → stop ≤ length s
-    → Holds (λ q m. (cond (eqb at stop) 0 (at + 1) ≡ namePlace at m) × (cond (eqb at stop) 0 (getD s at 0) ≡ nameLength m)) (nameAt s p stop at)
+    → Holds (λ q m. (cond (eqb at stop) 0 (at + 1) ≡ namePlace at m) × (cond (eqb at stop) 0 (getD s at 0) ≡ nameLength m)) (nameAt s stop at)
 unfolding nameAt namePlace nameLength
 name-numbers s p stop at inside =
     holds-cond (eqb at stop) (λ e. found (rw e refl, rw e refl))
     (λ e.
-    holds-require (eqb (at + 1 + getD s at 0 + (1 + getD s at 0) % 2) stop) 11 (restPlace p at) (λ whole.
-    holds-require (eqb ((1 + getD s at 0) % 2) 0 || eqb (getD s (at + 1 + getD s at 0) 0) 0) 11 (restPlace p at) (λ _.
+    holds-require (eqb (at + 1 + getD s at 0 + (1 + getD s at 0) % 2) stop) 11 at (λ whole.
+    holds-require (eqb ((1 + getD s at 0) % 2) 0 || eqb (getD s (at + 1 + getD s at 0) 0) 0) 11 at (λ _.
     let w : at + 1 + getD s at 0 + (1 + getD s at 0) % 2 ≡ stop = eqb-true _ _ whole in
     let len : length (slice (at + 1) (at + 1 + getD s at 0) s) ≡ at + 1 + getD s at 0 - (at + 1) = length-slice (at + 1) (at + 1 + getD s at 0) s (omega arith) in
     let same : getD s at 0 ≡ length (slice (at + 1) (at + 1 + getD s at 0) s) = omega arith in
@@ -229,13 +228,13 @@ read-count : (k : Kind) (s : List ℕ) (p at stop : ℕ) → stop ≤ length s �
 unfolding fieldsRead countOf
 read-count plain s p at stop inside = found (omega arith)
 read-count enumeration s p at stop inside =
-    holds-andThen (count-fits s p at stop countLimit) (λ next k c.
+    holds-andThen (count-fits s at stop countLimit) (λ next k c.
     holds-andThen (items-end s p stop inside k next (c .within)) (λ last xs i. found (omega (arith, i .1, c .limit))))
 read-count quantity s p at stop inside =
-    holds-andThen (run-fits s p at stop pairLimit) (λ last k r. found (omega (arith, length-pairsAt s k (at + 2), r .limit)))
+    holds-andThen (run-fits s at stop pairLimit) (λ last k r. found (omega (arith, length-pairsAt s k (at + 2), r .limit)))
 read-count string s p at stop inside = holds-require (leb (at + 4) stop) _ _ (λ _. found (omega arith))
-read-count array s p at stop inside = holds-andThen (run-fits s p at stop dimensionLimit) (λ last k r. found (omega (arith, r .limit)))
-read-count cluster s p at stop inside = holds-andThen (count-fits s p at stop countLimit) (λ last k c. found (c .limit))
+read-count array s p at stop inside = holds-andThen (run-fits s at stop dimensionLimit) (λ last k r. found (omega (arith, r .limit)))
+read-count cluster s p at stop inside = holds-andThen (count-fits s at stop countLimit) (λ last k c. found (c .limit))
 read-count stamp s p at stop inside =
     holds-require (leb (at + 2) stop) _ _ (λ _. holds-require (eqb (be s at 2) stampSubtype) _ _ (λ _. found (omega arith)))
 read-count unknown s p at stop inside = nothing
@@ -244,7 +243,7 @@ pub fields-count : (k : Kind) (s : List ℕ) (p at stop : ℕ) → stop ≤ leng
 unfolding fieldsAt
 fields-count k s p at stop inside =
     holds-andThen (read-count k s p at stop inside) (λ next b few.
-    holds-andThen (holds-self (contentsAt s p at b)) (λ _ _ _. holds-andThen (holds-self (filledAt s p stop next b)) (λ last _ _. found few)))
+    holds-andThen (holds-self (contentsAt s at b)) (λ _ _ _. holds-andThen (holds-self (filledAt s p stop next b)) (λ last _ _. found few)))
 
 -- One turn of the filling as the code takes it: the first descriptor ahead, its size and what stands inside it.
 module _ (s : List ℕ) (left k : ℕ) (t : Table) (pre : TablePre s left (suc k) t) (w : First s left k t) (size : ℕ) (es : size ≡ sizeIn s (t .at)) (b : Inside)

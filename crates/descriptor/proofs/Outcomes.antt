@@ -73,11 +73,27 @@ module _ {P : ℕ → ℕ → Type 0} where
   refuses-require true number place g f = f refl
   refuses-require false number place g f = refusing (g refl)
 
+  -- each of two cases may rest on the test
+  pub refuses-cond : {A : Type 0} (b : Bool) {o u : Outcome A} → (b ≡ true → Refuses P o) → (b ≡ false → Refuses P u) → Refuses P (cond b o u)
+  refuses-cond true f g = f refl
+  refuses-cond false f g = g refl
+
+  -- what follows a reading may rest on what holds of it
+  pub refuses-then : {A B : Type 0} {Q : ℕ → A → Type 0} {o : Outcome A} {next : ℕ → A → Outcome B} → Holds Q o → Refuses P o
+      → ((q : ℕ) (x : A) → Q q x → Refuses P (next q x)) → Refuses P (andThen o next)
+  refuses-then nothing (refusing h) g = refusing h
+  refuses-then (reading h) accepted g = g _ _ h
+
   -- where nothing is asked of what was read
   pub refuses-and : {A B : Type 0} {o : Outcome A} {next : ℕ → A → Outcome B} → Refuses P o → ((q : ℕ) (x : A) → Refuses P (next q x))
       → Refuses P (andThen o next)
   refuses-and (refusing h) g = refusing h
   refuses-and accepted g = g _ _
+
+-- what follows from P wherever P holds
+pub refuses-weaken : {A : Type 0} {P Q : ℕ → ℕ → Type 0} {o : Outcome A} → Refuses P o → ((number place : ℕ) → P number place → Q number place) → Refuses Q o
+refuses-weaken accepted g = accepted
+refuses-weaken (refusing h) g = refusing (g _ _ h)
 
 -- what holds of an answer that a reading decides
 pub judge-so : {A B : Type 0} (P : B → Type 0) (refuse : ℕ → ℕ → ℕ → B) (input : ℕ) (o : Outcome A) (accept : A → B)

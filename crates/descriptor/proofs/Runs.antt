@@ -8,7 +8,6 @@ use native.Mathlib.Omega.{arith}
 use borrow.Author.Tests.{le-leb, lt-leb, lt-ltb, le-ltb}
 use lib.ListN.{length, getD}
 use Rattle.descriptor.specs.Outcome.{Outcome, refused, read, andThen}
-use Rattle.descriptor.specs.Places.{overrunPlace, contentsPlace}
 use Rattle.descriptor.specs.Check.{itemAt, itemsAt, judged}
 use Rattle.descriptor.specs.inner.Steps.{counted, refusedStep, readStep}
 use Rattle.descriptor.specs.declared.step.Step.{Step}
@@ -22,27 +21,27 @@ one-less f k i h = let d : k - i ≡ suc (k - (i + 1)) = omega arith in ap f d
 pub none-left : {A : Type 0} (f : ℕ → A) (k i : ℕ) → k ≤ i → f (k - i) ≡ f 0
 none-left f k i h = let d : k - i ≡ 0 = omega arith in ap f d
 
-module _ (s : List ℕ) (p stop : ℕ) where
+module _ (s : List ℕ) (stop : ℕ) where
   -- the items from here on, i of them having gone before
   abbrev pub itemsFrom : ℕ → ℕ → ℕ → Step
-  itemsFrom i k at = counted (λ xs. i + length xs) (itemsAt s p stop k at)
+  itemsFrom i k at = counted (λ xs. i + length xs) (itemsAt s stop k at)
 
   pub record ItemsLoop (k start i at : ℕ) : Type 0 where
     pub most : i ≤ k
     pub next : at ≤ stop
-    pub same : counted length (itemsAt s p stop k start) ≡ itemsFrom i (k - i) at
+    pub same : counted length (itemsAt s stop k start) ≡ itemsFrom i (k - i) at
 
   pub items-begin : (k start : ℕ) → start ≤ stop → ItemsLoop k start 0 start
   items-begin k start h = record {
     most = omega arith;
     next = h;
-    same = counts-agree {A = List (List ℕ)} (λ xs. length xs) (λ xs. 0 + length xs) (λ xs. let e : length xs ≡ 0 + length xs = omega arith in e) (itemsAt s p stop k start) ∙ ap (λ (j : ℕ). itemsFrom 0 j start) (sym (sub-zero k));
+    same = counts-agree {A = List (List ℕ)} (λ xs. length xs) (λ xs. 0 + length xs) (λ xs. let e : length xs ≡ 0 + length xs = omega arith in e) (itemsAt s stop k start) ∙ ap (λ (j : ℕ). itemsFrom 0 j start) (sym (sub-zero k));
   }
 
   -- one more item
   pub items-more : (k i at : ℕ) → at < stop → at + 1 + getD s at 0 ≤ stop → itemsFrom i (suc k) at ≡ itemsFrom (i + 1) k (at + 1 + getD s at 0)
   unfolding itemsAt itemAt
-  items-more k i at h g = rw (lt-ltb at stop h, le-leb (at + 1 + getD s at 0) stop g) (go _ (itemsAt s p stop k (at + 1 + getD s at 0)))
+  items-more k i at h g = rw (lt-ltb at stop h, le-leb (at + 1 + getD s at 0) stop g) (go _ (itemsAt s stop k (at + 1 + getD s at 0)))
     where
       go : (x : List ℕ) (o : Outcome (List (List ℕ)))
           → counted (λ xs. i + length xs) (andThen o (λ last xs. read last (x ∷ xs))) ≡ counted (λ xs. i + 1 + length xs) o
@@ -50,11 +49,11 @@ module _ (s : List ℕ) (p stop : ℕ) where
       go x (read last xs) = let e : i + suc (length xs) ≡ i + 1 + length xs = omega arith in ap (λ (j : ℕ). readStep last j 0) e
 
   -- no room for the next item
-  pub items-over : (k i at : ℕ) → stop ≤ at → itemsFrom i (suc k) at ≡ refusedStep 8 (overrunPlace p stop)
+  pub items-over : (k i at : ℕ) → stop ≤ at → itemsFrom i (suc k) at ≡ refusedStep 8 stop
   unfolding itemsAt itemAt
   items-over k i at h = simp (le-ltb at stop h)
 
-  pub items-cut : (k i at : ℕ) → at < stop → stop < at + 1 + getD s at 0 → itemsFrom i (suc k) at ≡ refusedStep 8 (overrunPlace p stop)
+  pub items-cut : (k i at : ℕ) → at < stop → stop < at + 1 + getD s at 0 → itemsFrom i (suc k) at ≡ refusedStep 8 stop
   unfolding itemsAt itemAt
   items-cut k i at h g = simp (lt-ltb at stop h, lt-leb (at + 1 + getD s at 0) stop g)
 
@@ -64,9 +63,9 @@ module _ (s : List ℕ) (p stop : ℕ) where
   items-none i at = refl
 
 -- a run of k entries of four bytes, each judged by a test: what is judged from here on
-module _ (test : ℕ → Bool) (p : ℕ) where
+module _ (test : ℕ → Bool) where
   abbrev pub judgedFrom : ℕ → ℕ → Step
-  judgedFrom k at = counted (λ _. 0) (judged test p k at)
+  judgedFrom k at = counted (λ _. 0) (judged test k at)
 
   pub record RunLoop (k start i at : ℕ) : Type 0 where
     pub most : i ≤ k
@@ -82,7 +81,7 @@ module _ (test : ℕ → Bool) (p : ℕ) where
   entry-right k at h = rw h refl
 
   -- one that is wrong
-  pub entry-wrong : (k at : ℕ) → test at ≡ false → judgedFrom (suc k) at ≡ refusedStep 10 (contentsPlace p at)
+  pub entry-wrong : (k at : ℕ) → test at ≡ false → judgedFrom (suc k) at ≡ refusedStep 10 at
   unfolding judged
   entry-wrong k at h = rw h refl
 

@@ -86,9 +86,9 @@ pub record CountFits (s : List ℕ) (at stop most q k : ℕ) : Type 0 where
   pub limit : k ≤ most
 
 -- a count that is read fits
-pub count-fits : (s : List ℕ) (p at stop most : ℕ) → Holds (λ q k. CountFits s at stop most q k) (countAt s p at stop most)
+pub count-fits : (s : List ℕ) (at stop most : ℕ) → Holds (λ q k. CountFits s at stop most q k) (countAt s at stop most)
 unfolding countAt
-count-fits s p at stop most =
+count-fits s at stop most =
     holds-require _ _ _ (λ room.
     holds-require _ _ _ (λ range.
     let parts = and-true _ _ range in
@@ -103,10 +103,10 @@ pub record RunFits (s : List ℕ) (at stop most q k : ℕ) : Type 0 where
   pub limit : k ≤ most
 
 -- a run that is read fits
-pub run-fits : (s : List ℕ) (p at stop most : ℕ) → Holds (λ q k. RunFits s at stop most q k) (runAt s p at stop most)
+pub run-fits : (s : List ℕ) (at stop most : ℕ) → Holds (λ q k. RunFits s at stop most q k) (runAt s at stop most)
 unfolding runAt
-run-fits s p at stop most =
-    holds-andThen (count-fits s p at stop most) (λ next k c.
+run-fits s at stop most =
+    holds-andThen (count-fits s at stop most) (λ next k c.
     holds-require (leb (next + 4 * k) stop) _ _ (λ room.
     found (record { next = omega (arith, c .next); within = leb-true _ _ room; word = c .word; least = c .least; limit = c .limit })))
 
@@ -117,7 +117,7 @@ length-pairsAt s zero at = refl
 length-pairsAt s (suc k) at = ap suc (length-pairsAt s k (at + 4))
 
 -- the bytes of a body's fields as they are read, before an enumeration's fill
-unfoldable readSize : Fields → ℕ
+unfoldable pub readSize : Fields → ℕ
 readSize empty = 0
 readSize (items xs) = 2 + itemsSize xs
 readSize (pairs ps) = fieldsSize (pairs ps)
@@ -128,7 +128,7 @@ readSize subtype = fieldsSize subtype
 
 module _ (s : List ℕ) (p stop : ℕ) (inside : stop ≤ length s) where
   -- a Pascal string
-  pub item-ends : (at : ℕ) → Holds (λ q x. Ends at stop (suc (length x)) q) (itemAt s p stop at)
+  pub item-ends : (at : ℕ) → Holds (λ q x. Ends at stop (suc (length x)) q) (itemAt s stop at)
   unfolding itemAt
   item-ends at =
       holds-require (ltb at stop) _ _ (λ _.
@@ -137,7 +137,7 @@ module _ (s : List ℕ) (p stop : ℕ) (inside : stop ≤ length s) where
       found (record { at = omega (arith, length-slice (at + 1) (at + 1 + getD s at 0) s (omega arith)); within = fits })))
 
   -- k Pascal strings
-  pub items-end : (k at : ℕ) → at ≤ stop → Holds (λ q xs. Ends at stop (itemsSize xs) q × (length xs ≡ k)) (itemsAt s p stop k at)
+  pub items-end : (k at : ℕ) → at ≤ stop → Holds (λ q xs. Ends at stop (itemsSize xs) q × (length xs ≡ k)) (itemsAt s stop k at)
   unfolding itemsAt itemsSize
   items-end zero at h = found (record { at = omega arith; within = h }, refl)
   items-end (suc k) at h =
@@ -146,18 +146,18 @@ module _ (s : List ℕ) (p stop : ℕ) (inside : stop ≤ length s) where
       found (record { at = omega arith; within = r .0 .within }, ap suc (r .1))))
 
   -- the fields of a body as they are read
-  read-ends : (k : Kind) (at : ℕ) → at ≤ stop → Holds (λ q b. Ends at stop (readSize b) q) (fieldsRead k s p at stop)
+  pub read-ends : (k : Kind) (at : ℕ) → at ≤ stop → Holds (λ q b. Ends at stop (readSize b) q) (fieldsRead k s p at stop)
   unfolding fieldsRead fieldsSize readSize
   read-ends plain at h = found (record { at = omega arith; within = h })
   read-ends enumeration at h =
-      holds-andThen (count-fits s p at stop countLimit) (λ next k c.
+      holds-andThen (count-fits s at stop countLimit) (λ next k c.
       holds-andThen (items-end k next (c .within)) (λ last xs i. found (record { at = omega (arith, c .next, i .0 .at); within = i .0 .within })))
   read-ends quantity at h =
-      holds-andThen (run-fits s p at stop pairLimit) (λ last k r.
+      holds-andThen (run-fits s at stop pairLimit) (λ last k r.
       found (record { at = omega (arith, r .next, length-pairsAt s k (at + 2)); within = r .within }))
   read-ends string at h = holds-require (leb (at + 4) stop) _ _ (λ room. found (record { at = omega arith; within = leb-true _ _ room }))
-  read-ends array at h = holds-andThen (run-fits s p at stop dimensionLimit) (λ last k r. found (record { at = omega (arith, r .next); within = r .within }))
-  read-ends cluster at h = holds-andThen (count-fits s p at stop countLimit) (λ last k c. found (record { at = omega (arith, c .next); within = c .within }))
+  read-ends array at h = holds-andThen (run-fits s at stop dimensionLimit) (λ last k r. found (record { at = omega (arith, r .next); within = r .within }))
+  read-ends cluster at h = holds-andThen (count-fits s at stop countLimit) (λ last k c. found (record { at = omega (arith, c .next); within = c .within }))
   read-ends stamp at h =
       holds-require (leb (at + 2) stop) _ _ (λ room.
       holds-require (eqb (be s at 2) stampSubtype) _ _ (λ _. found (record { at = omega arith; within = leb-true _ _ room })))
@@ -185,11 +185,11 @@ module _ (s : List ℕ) (p stop : ℕ) (inside : stop ≤ length s) where
   unfolding fieldsAt
   fields-end k at body h =
       holds-andThen (read-ends k at h) (λ next b e.
-      holds-andThen (holds-self (contentsAt s p at b)) (λ _ _ _.
+      holds-andThen (holds-self (contentsAt s at b)) (λ _ _ _.
       holds-andThen (filled-ends at next b (omega arith) (omega arith) e) (λ last _ f. found f)))
 
   -- a name, which ends where the descriptor does
-  pub name-ends : (at : ℕ) → Holds (λ q m. (q ≡ at + nameSize m) × (q ≡ stop)) (nameAt s p stop at)
+  pub name-ends : (at : ℕ) → Holds (λ q m. (q ≡ at + nameSize m) × (q ≡ stop)) (nameAt s stop at)
   unfolding nameAt nameSize
   name-ends at =
       holds-cond (eqb at stop) (λ same. let e = eqb-true _ _ same in found (omega arith, e))
@@ -243,7 +243,7 @@ module _ (s : List ℕ) (p stop : ℕ) (inside : stop ≤ length s) where
   fields-size k q b h e = holds-read e (fields-end s p stop inside k (bodyAt p) refl h) .at
 
   -- a name
-  pub name-size : (at q : ℕ) (m : Name) → nameAt s p stop at ≡ read q m → (q ≡ at + nameSize m) × (q ≡ stop)
+  pub name-size : (at q : ℕ) (m : Name) → nameAt s stop at ≡ read q m → (q ≡ at + nameSize m) × (q ≡ stop)
   name-size at q m e = holds-read e (name-ends s p stop inside at)
 
 module _ (s : List ℕ) (levels : ℕ) (a : Bool) (end : ℕ) (inside : end ≤ length s) where

@@ -67,7 +67,7 @@ module _ (s : List ℕ) where
       (members-wider (f inArray stop) (g inArray stop) (λ q i j le. wider inArray stop q i j le) (childCount b) at (n + 1) (m + 1) (omega arith))
       (λ next ts es.
       holds-require (insideFits (kindOf (h .code)) ts) _ _ (λ fits.
-      holds-andThen (holds-self (nameAt s p stop next)) (λ last name en. found (rw (eb, es, fits, en))))))
+      holds-andThen (holds-self (nameAt s stop next)) (λ last name en. found (rw (eb, es, fits, en))))))
 
   -- a descriptor that is read is read so with wider settings; `calm` says that no array is put around it
   pub tree-wider : (levels more : ℕ) (a b : Bool) (end late p n m : ℕ) → levels ≤ more → end ≤ late → m ≤ n
@@ -122,7 +122,7 @@ tree-low s (suc d) a end p n =
     (members-low d (λ q m. treeAt d s (isArray (kindOf (h .code))) (p + h .size) q m)
     (λ q m. tree-low s d (isArray (kindOf (h .code))) (p + h .size) q m) (childCount b) at (n + 1)) (λ next ts low.
     holds-require (insideFits (kindOf (h .code)) ts) _ _ (λ _.
-    holds-andThen (holds-self (nameAt s p (p + h .size) next)) (λ last name _. found (omega arith))))))
+    holds-andThen (holds-self (nameAt s (p + h .size) next)) (λ last name _. found (omega arith))))))
 
 -- what the descriptor at p, which ends at q, is made of: its header, its fields, the descriptors in it, its name
 pub record Opened (s : List ℕ) (p q c : ℕ) (b : Fields) (f : Forest) (m : Name) : Type 0 where
@@ -137,7 +137,7 @@ pub record Opened (s : List ℕ) (p q c : ℕ) (b : Fields) (f : Forest) (m : Na
   pub count : forestLength f ≡ childCount b
   pub stamped : insideFits (kindOf c) f ≡ true
   pub within : insideAt p b + forestSize f ≤ q
-  pub name : nameAt s p q (insideAt p b + forestSize f) ≡ read q m
+  pub name : nameAt s q (insideAt p b + forestSize f) ≡ read q m
   pub low : suc (forestHeight f) ≤ depthLimit
 
 -- the same of a tree
@@ -163,7 +163,7 @@ module _ (s : List ℕ) where
       (members-stand s d inArray stop less fit (childCount b) at (n + 1))
       (members-low d (λ q m. treeAt d s inArray stop q m) (λ q m. tree-low s d inArray stop q m) (childCount b) at (n + 1)))) (λ next ts es.
       holds-require (insideFits (kindOf (h .code)) ts) _ _ (λ stamped.
-      holds-andThen (holds-both (name-ends s p stop fit next) (holds-self (nameAt s p stop next))) (λ last name en.
+      holds-andThen (holds-both (name-ends s p stop fit next) (holds-self (nameAt s stop next))) (λ last name en.
       let first : at ≡ insideAt p b = omega (arith, eb .0 .at, fits .body) in
       let after : next ≡ insideAt p b + forestSize ts = omega (arith, es .0 .0 .at) in
       let ends : last ≡ stop = en .0 .1 in
@@ -179,7 +179,7 @@ module _ (s : List ℕ) where
         count = es .0 .1;
         stamped = stamped;
         within = omega (arith, es .0 .0 .within);
-        name = (λ j. nameAt s p (ends j) (sym after j)) ∙ en .1;
+        name = (λ j. nameAt s (ends j) (sym after j)) ∙ en .1;
         low = omega (arith, es .1 .1);
       })))))
 

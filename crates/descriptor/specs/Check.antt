@@ -1,6 +1,7 @@
 -- The check of any bytes as a descriptor, in document 01's order: "1 first. At each descriptor, parent before child: 2 to 7, array in
 -- array, then the body: count word missing 8, count 9, the rest missing 8, contents 10. .. Then the children, then 11. Last 12."
--- The descriptor at fault starts at p; `end` is its parent's end and `stop` its own. Places.antt has the places.
+-- The descriptor at fault starts at p, which is the place of 2, 3, 4, 6 and 7; those of 5 and 8 to 11 are document 02's, CR 3. `end` is its
+-- parent's end and `stop` its own.
 use mathlib.Core.Bool.{Bool, true, false, cond, not, _&&_, _||_}
 use mathlib.Core.List.{List, [], _∷_}
 use Prim.Native.Nat.{ℕ, zero, suc, _+_, _-_, _*_, _%_}
@@ -14,7 +15,6 @@ use Rattle.descriptor.specs.Header.{headerSize, codeAt, bodyAt, sizeIn, 
 use Rattle.descriptor.specs.Tree.{Name, unnamed, named, Pair, Fields, empty, items, pairs, text, dimensions, members, subtype, Tree, node, Forest, nil, cons, childCount, rowCount}
 use Rattle.descriptor.specs.Stamp.{stampSubtype, insideFits}
 use Rattle.descriptor.specs.Outcome.{Outcome, refused, read, andThen, require}
-use Rattle.descriptor.specs.Places.{codePlace, overrunPlace, countPlace, contentsPlace, restPlace}
 
 -- a descriptor's two words: its size and its low code byte
 pub record Header : Type 0 where
@@ -26,45 +26,46 @@ abbrev pub sizeFits : ℕ → ℕ → Bool
 sizeFits size room = eqb (size % 2) 0 && (leb headerSize size && leb size room)
 
 -- The header of the descriptor at p: 2 to 7, with `levels` left of the depth and n rows before this one; then array in array, judged
--- at the inner array: 10 where the parent is an array. The next byte is the body's first.
+-- at the inner array: 10 where the parent is an array. "For 5 the low code byte; .. for array in array the low code byte of the inner array".
+-- The next byte is the body's first.
 unfoldable pub headerAt : List ℕ → ℕ → Bool → ℕ → ℕ → ℕ → Outcome Header
 headerAt s levels inArray end p n =
     require (leb headerSize (end - p)) 2 p
     (require (ltb (sizeIn s p) highBit) 3 p
     (require (sizeFits (sizeIn s p) (end - p)) 4 p
-    (require (isCarried (kindOf (codeIn s p))) 5 (codePlace p)
+    (require (isCarried (kindOf (codeIn s p))) 5 (codeAt p)
     (require (ltb 0 levels) 6 p
     (require (ltb n rowLimit) 7 p
-    (require (not (inArray && isArray (kindOf (codeIn s p)))) 10 (contentsPlace p (codeAt p))
+    (require (not (inArray && isArray (kindOf (codeIn s p)))) 10 (codeAt p)
     (read (bodyAt p) (record { size = sizeIn s p; code = codeIn s p }))))))))
 
--- Reading a body that starts at `at`: "count word missing 8, count 9, the rest missing 8".
+-- Reading a body that starts at `at`: "count word missing 8, count 9, the rest missing 8"; "for 8 the descriptor's end; for 9 the count word".
 
 -- the count at the body's first word, from 1 to `most`
-unfoldable pub countAt : List ℕ → ℕ → ℕ → ℕ → ℕ → Outcome ℕ
-countAt s p at stop most =
-    require (leb (at + 2) stop) 8 (overrunPlace p stop)
-    (require (between 1 most (be s at 2)) 9 (countPlace p at)
+unfoldable pub countAt : List ℕ → ℕ → ℕ → ℕ → Outcome ℕ
+countAt s at stop most =
+    require (leb (at + 2) stop) 8 stop
+    (require (between 1 most (be s at 2)) 9 at
     (read (at + 2) (be s at 2)))
 
 -- a count, and that many words of four bytes after it
-unfoldable pub runAt : List ℕ → ℕ → ℕ → ℕ → ℕ → Outcome ℕ
-runAt s p at stop most =
-    andThen (countAt s p at stop most)
-    (λ next k. require (leb (next + 4 * k) stop) 8 (overrunPlace p stop) (read (next + 4 * k) k))
+unfoldable pub runAt : List ℕ → ℕ → ℕ → ℕ → Outcome ℕ
+runAt s at stop most =
+    andThen (countAt s at stop most)
+    (λ next k. require (leb (next + 4 * k) stop) 8 stop (read (next + 4 * k) k))
 
 -- one Pascal string of an enumeration: "8 at the first string that runs over"
-unfoldable pub itemAt : List ℕ → ℕ → ℕ → ℕ → Outcome (List ℕ)
-itemAt s p stop at =
-    require (ltb at stop) 8 (overrunPlace p stop)
-    (require (leb (at + 1 + getD s at 0) stop) 8 (overrunPlace p stop)
+unfoldable pub itemAt : List ℕ → ℕ → ℕ → Outcome (List ℕ)
+itemAt s stop at =
+    require (ltb at stop) 8 stop
+    (require (leb (at + 1 + getD s at 0) stop) 8 stop
     (read (at + 1 + getD s at 0) (slice (at + 1) (at + 1 + getD s at 0) s)))
 
 -- k Pascal strings packed, "read in byte order"
-unfoldable pub itemsAt : List ℕ → ℕ → ℕ → ℕ → ℕ → Outcome (List (List ℕ))
-itemsAt s p stop zero at = read at []
-itemsAt s p stop (suc k) at =
-    andThen (itemAt s p stop at) (λ next x. andThen (itemsAt s p stop k next) (λ last xs. read last (x ∷ xs)))
+unfoldable pub itemsAt : List ℕ → ℕ → ℕ → ℕ → Outcome (List (List ℕ))
+itemsAt s stop zero at = read at []
+itemsAt s stop (suc k) at =
+    andThen (itemAt s stop at) (λ next x. andThen (itemsAt s stop k next) (λ last xs. read last (x ∷ xs)))
 
 -- the k unit pairs at `at`
 unfoldable pub pairsAt : List ℕ → ℕ → ℕ → List Pair
@@ -75,25 +76,25 @@ pairsAt s (suc k) at = record { base = be s at 2; exponent = be s (at + 2) 2 } �
 unfoldable pub fieldsRead : Kind → List ℕ → ℕ → ℕ → ℕ → Outcome Fields
 fieldsRead plain s p at stop = read at empty
 fieldsRead enumeration s p at stop =
-    andThen (countAt s p at stop countLimit) (λ next k. andThen (itemsAt s p stop k next) (λ last xs. read last (items xs)))
-fieldsRead quantity s p at stop = andThen (runAt s p at stop pairLimit) (λ last k. read last (pairs (pairsAt s k (at + 2))))
-fieldsRead string s p at stop = require (leb (at + 4) stop) 8 (overrunPlace p stop) (read (at + 4) text)
-fieldsRead array s p at stop = andThen (runAt s p at stop dimensionLimit) (λ last k. read last (dimensions k))
-fieldsRead cluster s p at stop = andThen (countAt s p at stop countLimit) (λ last k. read last (members k))
+    andThen (countAt s at stop countLimit) (λ next k. andThen (itemsAt s stop k next) (λ last xs. read last (items xs)))
+fieldsRead quantity s p at stop = andThen (runAt s at stop pairLimit) (λ last k. read last (pairs (pairsAt s k (at + 2))))
+fieldsRead string s p at stop = require (leb (at + 4) stop) 8 stop (read (at + 4) text)
+fieldsRead array s p at stop = andThen (runAt s at stop dimensionLimit) (λ last k. read last (dimensions k))
+fieldsRead cluster s p at stop = andThen (countAt s at stop countLimit) (λ last k. read last (members k))
 -- document 02, CR 1: "a missing subtype word is 8", "another subtype is 5, judged after 8"
 fieldsRead stamp s p at stop =
-    require (leb (at + 2) stop) 8 (overrunPlace p stop)
-    (require (eqb (be s at 2) stampSubtype) 5 (codePlace p)
+    require (leb (at + 2) stop) 8 stop
+    (require (eqb (be s at 2) stampSubtype) 5 (codeAt p)
     (read (at + 2) subtype))
 -- not reached: a code that is not carried is refused by its header
-fieldsRead unknown s p at stop = refused 5 (codePlace p)
+fieldsRead unknown s p at stop = refused 5 (codeAt p)
 
--- The contents, 10: "wrong length or dimension word, base index over 8".
+-- The contents, 10: "wrong length or dimension word, base index over 8"; "for 10 the first byte of the wrong word or the fill byte".
 
 -- the first of the k entries of four bytes from `at` on that the test refuses is refused
-unfoldable pub judged : (ℕ → Bool) → ℕ → ℕ → ℕ → Outcome (Unit {0})
-judged test p zero at = read at tt
-judged test p (suc k) at = require (test at) 10 (contentsPlace p at) (judged test p k (at + 4))
+unfoldable pub judged : (ℕ → Bool) → ℕ → ℕ → Outcome (Unit {0})
+judged test zero at = read at tt
+judged test (suc k) at = require (test at) 10 at (judged test k (at + 4))
 
 -- "a 16-bit base index 0 to 8"
 abbrev pub baseFits : List ℕ → ℕ → Bool
@@ -104,14 +105,14 @@ abbrev pub wordFits : List ℕ → ℕ → Bool
 wordFits s at = eqb (be s at 4) fixedWord
 
 -- the contents of the body that starts at `at` and has the fields b
-unfoldable pub contentsAt : List ℕ → ℕ → ℕ → Fields → Outcome (Unit {0})
-contentsAt s p at empty = read at tt
-contentsAt s p at (items xs) = read at tt
-contentsAt s p at (pairs ps) = judged (baseFits s) p (length ps) (at + 2)
-contentsAt s p at text = judged (wordFits s) p 1 at
-contentsAt s p at (dimensions k) = judged (wordFits s) p k (at + 2)
-contentsAt s p at (members k) = read at tt
-contentsAt s p at subtype = read at tt
+unfoldable pub contentsAt : List ℕ → ℕ → Fields → Outcome (Unit {0})
+contentsAt s at empty = read at tt
+contentsAt s at (items xs) = read at tt
+contentsAt s at (pairs ps) = judged (baseFits s) (length ps) (at + 2)
+contentsAt s at text = judged (wordFits s) 1 at
+contentsAt s at (dimensions k) = judged (wordFits s) k (at + 2)
+contentsAt s at (members k) = read at tt
+contentsAt s at subtype = read at tt
 
 -- an enumeration's "one zero byte if the length so far is odd": 10 where it is not zero. (That it is missing, 8, can't happen: the
 -- descriptor's start and its end are even.)
@@ -119,7 +120,7 @@ unfoldable pub fillAt : List ℕ → ℕ → ℕ → ℕ → Outcome (Unit {0})
 fillAt s p stop at =
     cond (eqb ((at - p) % 2) 0)
     (read at tt)
-    (require (ltb at stop) 8 (overrunPlace p stop) (require (eqb (getD s at 0) 0) 10 (contentsPlace p at) (read (at + 1) tt)))
+    (require (ltb at stop) 8 stop (require (eqb (getD s at 0) 0) 10 at (read (at + 1) tt)))
 
 -- the fill after the fields b, which end at `at`; only an enumeration has one
 unfoldable pub filledAt : List ℕ → ℕ → ℕ → ℕ → Fields → Outcome (Unit {0})
@@ -134,20 +135,21 @@ filledAt s p stop at subtype = read at tt
 -- the fields of the body that starts at `at`, read, judged and filled; the next byte is the first after them
 unfoldable pub fieldsAt : Kind → List ℕ → ℕ → ℕ → ℕ → Outcome Fields
 fieldsAt k s p at stop =
-    andThen (fieldsRead k s p at stop) (λ next b. andThen (contentsAt s p at b) (λ _ _. andThen (filledAt s p stop next b) (λ last _. read last b)))
+    andThen (fieldsRead k s p at stop) (λ next b. andThen (contentsAt s at b) (λ _ _. andThen (filledAt s p stop next b) (λ last _. read last b)))
 
 -- k descriptors in a row from p on, each read by f, which is told where it stands and how many rows went before
 unfoldable pub membersAt : (ℕ → ℕ → Outcome Tree) → ℕ → ℕ → ℕ → Outcome Forest
 membersAt f zero p n = read p nil
 membersAt f (suc k) p n = andThen (f p n) (λ q t. andThen (membersAt f k q (n + rowCount t)) (λ r ts. read r (cons t ts)))
 
--- the name from `at` up to `stop`: nothing, "or one Pascal string with one zero byte after it where needed to make the size even"; else 11
-unfoldable pub nameAt : List ℕ → ℕ → ℕ → ℕ → Outcome Name
-nameAt s p stop at =
+-- the name from `at` up to `stop`: nothing, "or one Pascal string with one zero byte after it where needed to make the size even"; else 11,
+-- "the first byte after the body"
+unfoldable pub nameAt : List ℕ → ℕ → ℕ → Outcome Name
+nameAt s stop at =
     cond (eqb at stop)
     (read at unnamed)
-    (require (eqb (at + 1 + getD s at 0 + (1 + getD s at 0) % 2) stop) 11 (restPlace p at)
-    (require (eqb ((1 + getD s at 0) % 2) 0 || eqb (getD s (at + 1 + getD s at 0) 0) 0) 11 (restPlace p at)
+    (require (eqb (at + 1 + getD s at 0 + (1 + getD s at 0) % 2) stop) 11 at
+    (require (eqb ((1 + getD s at 0) % 2) 0 || eqb (getD s (at + 1 + getD s at 0) 0) 0) 11 at
     (read stop (named (slice (at + 1) (at + 1 + getD s at 0) s)))))
 
 -- The descriptor at p with the header h, whose body starts at `body`: its fields, then its children, then whether they are a time stamp's,
@@ -160,7 +162,7 @@ nodeAt s f p n body h =
     andThen (membersAt (f (isArray (kindOf (h .code))) (p + h .size)) (childCount b) at (n + 1))
     (λ next ts.
     require (insideFits (kindOf (h .code)) ts) 10 p
-    (andThen (nameAt s p (p + h .size) next) (λ last m. read last (node (h .code) b ts m)))))
+    (andThen (nameAt s (p + h .size) next) (λ last m. read last (node (h .code) b ts m)))))
 
 -- The descriptor at p, whose parent ends at `end`, with `levels` left of the depth and n rows before it.
 -- "A cluster inside a cluster is read by the same rules, within its parent's end."

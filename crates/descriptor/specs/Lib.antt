@@ -4,7 +4,6 @@ pub mod Header
 pub mod Tree
 pub mod Encoding
 pub mod Outcome
-pub mod Places
 pub mod Check
 pub mod Stamp
 pub mod Table

@@ -9,7 +9,6 @@ ghost use Prim.Native.Nat.{_+_, _≤_, _<_};
 ghost use lib.ListN.{length};
 ghost use Rattle.number.specs.inner.Post.{Bounded};
 ghost use Rattle.descriptor.specs.Header.{headerSize, reservedAt, codeAt, bodyAt, sizeIn, codeIn};
-ghost use Rattle.descriptor.specs.Places.{codePlace, contentsPlace};
 ghost use Rattle.descriptor.specs.inner.Steps.{refusedHead};
 ghost use Rattle.descriptor.specs.inner.Promises.{Within, HeadMet, addressable};
 
@@ -32,6 +31,14 @@ pub fn reserved_at(p: usize) -> usize
     ensures { λ r. ⌜ r ≡ reservedAt p ⌝ }
 {
     p + 2
+}
+
+// Where its low code byte stands.
+pub fn code_place(p: usize) -> usize
+    requires { ⌜ p < addressable ⌝ }
+    ensures { λ r. ⌜ r ≡ codeAt p ⌝ }
+{
+    p + 3
 }
 
 // Where its body starts.
@@ -73,16 +80,18 @@ fn refuse_head(number: u32, place: usize) -> Head
 
 // 5: the code of the descriptor at p is not carried.
 fn bad_code(p: usize) -> Head
-    ensures { λ r. ⌜ r ≡ refusedHead 5 (codePlace p) ⌝ }
+    requires { ⌜ p < addressable ⌝ }
+    ensures { λ r. ⌜ r ≡ refusedHead 5 (codeAt p) ⌝ }
 {
-    refuse_head(5, p)
+    refuse_head(5, code_place(p))
 }
 
 // 10: the descriptor at p is an array in an array.
 fn nested_array(p: usize) -> Head
-    ensures { λ r. ⌜ r ≡ refusedHead 10 (contentsPlace p (codeAt p)) ⌝ }
+    requires { ⌜ p < addressable ⌝ }
+    ensures { λ r. ⌜ r ≡ refusedHead 10 (codeAt p) ⌝ }
 {
-    refuse_head(10, p)
+    refuse_head(10, code_place(p))
 }
 
 // The header of the descriptor at p, whose parent ends at `end`, with `levels` left of the depth and n rows before it.

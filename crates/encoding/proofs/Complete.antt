@@ -18,7 +18,6 @@ use Rattle.descriptor.specs.Tree.{Name, unnamed, named, Pair, Fields, empty, it
 use Rattle.descriptor.specs.Encoding.{word, pascal, packed, pairBytes, fill, fieldBytes, nameBytes, encodeWith, forestWith, AllPairs, Counted, FieldsFit, WellFormed, AllWellFormed}
 use Rattle.descriptor.specs.Stamp.{stampSubtype, stampInside}
 use Rattle.descriptor.specs.Outcome.{Outcome, read, andThen, require}
-use Rattle.descriptor.specs.Places.{overrunPlace, contentsPlace}
 use Rattle.descriptor.specs.Check.{headerAt, countAt, runAt, itemAt, itemsAt, pairsAt, judged, baseFits, wordFits, fillAt, fieldsAt, membersAt, nameAt, nodeAt, treeAt}
 use Rattle.descriptor.proofs.Sizes.{both-true}
 use Rattle.descriptor.proofs.FieldKinds.{plain-fields, enumeration-fields, quantity-fields, string-fields, array-fields, cluster-fields, stamp-fields}
@@ -75,19 +74,19 @@ module _ (s : List ℕ) where
       (pass _ _ (ap (λ (k : ℕ). not (a && isArray (kindOf k))) ec ∙ ap not element)
       (λ j. read (bodyAt p) (record { size = es j; code = ec j }))))))))
 
-  -- FFFFFFFF, k times, judged for the descriptor that starts at `start`
-  pub words-complete : (start k p : ℕ) → p + 4 * k ≤ length s → slice p (p + 4 * k) s ≡ replicate (4 * k) 255
-      → judged (wordFits s) start k p ≡ read (p + 4 * k) tt
+  -- FFFFFFFF, k times
+  pub words-complete : (k p : ℕ) → p + 4 * k ≤ length s → slice p (p + 4 * k) s ≡ replicate (4 * k) 255
+      → judged (wordFits s) k p ≡ read (p + 4 * k) tt
   unfolding judged beBytes
-  words-complete start zero p h e = ap (λ (q : ℕ). read q tt) (let z : p ≡ p + 4 * 0 = omega arith in z)
-  words-complete start (suc k) p h e =
+  words-complete zero p h e = ap (λ (q : ℕ). read q tt) (let z : p ≡ p + 4 * 0 = omega arith in z)
+  words-complete (suc k) p h e =
       let last : p + 4 + 4 * k ≡ p + 4 * suc k = omega arith in
       let size : 4 * suc k ≡ 4 + 4 * k = omega arith in
       let whole : slice p (p + 4 + 4 * k) s ≡ replicate 4 255 ++ replicate (4 * k) 255 =
       ap (λ (q : ℕ). slice p q s) last ∙ e ∙ ap (λ (n : ℕ). replicate n 255) size ∙ sym (replicate-append-replicate 4 (4 * k) 255) in
       let parts = slice-split (replicate 4 255) (replicate (4 * k) 255) p (p + 4) (p + 4 + 4 * k) s refl (omega arith) (omega arith) whole in
       pass _ _ (eq-eqb (be s p 4) fixedWord (slice-be s p 4 fixedWord (parts .0)))
-      (words-complete start k (p + 4) (omega arith) (parts .1) ∙ ap (λ (q : ℕ). read q tt) last)
+      (words-complete k (p + 4) (omega arith) (parts .1) ∙ ap (λ (q : ℕ). read q tt) last)
 
   -- unit pairs
   pub pairs-complete : (ps : List Pair) (p : ℕ) → AllPairs ps → p + 4 * length ps ≤ length s → slice p (p + 4 * length ps) s ≡ pairBytes ps
@@ -106,15 +105,15 @@ module _ (s : List ℕ) where
       (λ j. record { base = eb j; exponent = ee j } ∷ rest j)
 
   -- whose bases are within their limit
-  pub bases-complete : (start : ℕ) (ps : List Pair) (p : ℕ) → AllPairs ps → pairsAt s (length ps) p ≡ ps
-      → judged (baseFits s) start (length ps) p ≡ read (p + 4 * length ps) tt
+  pub bases-complete : (ps : List Pair) (p : ℕ) → AllPairs ps → pairsAt s (length ps) p ≡ ps
+      → judged (baseFits s) (length ps) p ≡ read (p + 4 * length ps) tt
   unfolding judged pairsAt AllPairs
-  bases-complete start [] p fit e = ap (λ (q : ℕ). read q tt) (let z : p ≡ p + 4 * 0 = omega arith in z)
-  bases-complete start (x ∷ ps) p fit e =
+  bases-complete [] p fit e = ap (λ (q : ℕ). read q tt) (let z : p ≡ p + 4 * 0 = omega arith in z)
+  bases-complete (x ∷ ps) p fit e =
       let base : be s p 2 ≡ x .base = ap (λ (l : List Pair). first-base l) e in
       let rest : pairsAt s (length ps) (p + 4) ≡ ps = ap (λ (l : List Pair). others l) e in
       pass _ _ (le-leb (be s p 2) _ (omega (arith, fit .0 .0)))
-      (bases-complete start ps (p + 4) (fit .1) rest ∙ ap (λ (q : ℕ). read q tt) (let z : p + 4 + 4 * length ps ≡ p + 4 * suc (length ps) = omega arith in z))
+      (bases-complete ps (p + 4) (fit .1) rest ∙ ap (λ (q : ℕ). read q tt) (let z : p + 4 + 4 * length ps ≡ p + 4 * suc (length ps) = omega arith in z))
     where
       first-base : List Pair → ℕ
       first-base [] = 0
@@ -128,7 +127,7 @@ module _ (s : List ℕ) where
   module _ (p stop : ℕ) (inside : stop ≤ length s) where
     -- a count
     pub count-complete : (at most k : ℕ) → at + 2 ≤ stop → slice at (at + 2) s ≡ word k → Counted k most → most < 65536
-        → countAt s p at stop most ≡ read (at + 2) k
+        → countAt s at stop most ≡ read (at + 2) k
     unfolding countAt
     count-complete at most k room e c small =
         let w : be s at 2 ≡ k = word-read at (at + 2) k refl (omega (arith, c .within)) e in
@@ -137,14 +136,14 @@ module _ (s : List ℕ) where
 
     -- a count with its words
     pub run-complete : (at most k : ℕ) → at + 2 + 4 * k ≤ stop → slice at (at + 2) s ≡ word k → Counted k most → most < 65536
-        → runAt s p at stop most ≡ read (at + 2 + 4 * k) k
+        → runAt s at stop most ≡ read (at + 2 + 4 * k) k
     unfolding runAt
     run-complete at most k room e c small =
         onward _ (count-complete at most k (omega arith) e c small) (pass _ _ (le-leb (at + 2 + 4 * k) stop room) refl)
 
     -- a Pascal string
     pub item-complete : (at : ℕ) (x : List ℕ) → at + suc (length x) ≤ stop → slice at (at + suc (length x)) s ≡ pascal x
-        → itemAt s p stop at ≡ read (at + suc (length x)) x
+        → itemAt s stop at ≡ read (at + suc (length x)) x
     unfolding itemAt
     item-complete at x room e =
         let f = slice-first (length x) x at (at + 1) (at + suc (length x)) s 0 refl (omega arith) (omega arith) e in
@@ -154,7 +153,7 @@ module _ (s : List ℕ) where
 
     -- packed Pascal strings
     pub items-complete : (xs : List (List ℕ)) (at : ℕ) → at + itemsSize xs ≤ stop → slice at (at + itemsSize xs) s ≡ packed xs
-        → itemsAt s p stop (length xs) at ≡ read (at + itemsSize xs) xs
+        → itemsAt s stop (length xs) at ≡ read (at + itemsSize xs) xs
     unfolding itemsAt itemsSize packed
     items-complete [] at room e = ap (λ (q : ℕ). read q []) (let z : at ≡ at + 0 = omega arith in z)
     items-complete (x ∷ xs) at room e =
@@ -171,7 +170,7 @@ module _ (s : List ℕ) where
       where
         go : (even : Bool) → eqb ((at - p) % 2) 0 ≡ even
             → _≡_ {A = Outcome (Unit {0})}
-            (cond even (read at tt) (require (ltb at stop) 8 (overrunPlace p stop) (require (eqb (getD s at 0) 0) 10 (contentsPlace p at) (read (at + 1) tt))))
+            (cond even (read at tt) (require (ltb at stop) 8 stop (require (eqb (getD s at 0) 0) 10 at (read (at + 1) tt))))
             (read q tt)
         go true t = ap (λ (j : ℕ). read j tt) (let z : at ≡ q = omega (arith, eqb-true) in z)
         go false t =
@@ -205,13 +204,13 @@ module _ (s : List ℕ) where
         let same : pairsAt s (length ps) (at + 2) ≡ ps = pairs-complete ps (at + 2) (fit .1 .1) (omega arith) (w .1) in
         ap (λ (j : Kind). fieldsAt j s p at stop) (fit .0) ∙ quantity-fields s p at stop
         ∙ onward _ (run-complete at pairLimit (length ps) (omega arith) (w .0) (fit .1 .0) (omega arith))
-        (onward _ (bases-complete p ps (at + 2) (fit .1 .1) same) (ap₂ (λ (q : ℕ) (xs : List Pair). read q (pairs xs)) (sym last) same))
+        (onward _ (bases-complete ps (at + 2) (fit .1 .1) same) (ap₂ (λ (q : ℕ) (xs : List Pair). read q (pairs xs)) (sym last) same))
     fields-complete k text fit room e =
         let at : ℕ = bodyAt p in
         let last : at + 4 * 1 ≡ at + 4 = omega arith in
         ap (λ (j : Kind). fieldsAt j s p at stop) fit ∙ string-fields s p at stop
         ∙ pass _ _ (le-leb (at + 4) stop room)
-        (onward _ (words-complete p 1 at (omega arith) (ap (λ (q : ℕ). slice at q s) last ∙ e)) refl)
+        (onward _ (words-complete 1 at (omega arith) (ap (λ (q : ℕ). slice at q s) last ∙ e)) refl)
     fields-complete k (dimensions d) fit room e =
         let at : ℕ = bodyAt p in
         let last : at + (2 + 4 * d) ≡ at + 2 + 4 * d = omega arith in
@@ -219,7 +218,7 @@ module _ (s : List ℕ) where
         (omega (arith, length-beBytes 2 d)) (omega arith) (omega arith) (ap (λ (q : ℕ). slice at q s) (sym last) ∙ e) in
         ap (λ (j : Kind). fieldsAt j s p at stop) (fit .0) ∙ array-fields s p at stop
         ∙ onward _ (run-complete at dimensionLimit d (omega arith) (w .0) (fit .1) (omega arith))
-        (onward _ (words-complete p d (at + 2) (omega arith) (w .1)) (ap (λ (q : ℕ). read q (dimensions d)) (sym last)))
+        (onward _ (words-complete d (at + 2) (omega arith) (w .1)) (ap (λ (q : ℕ). read q (dimensions d)) (sym last)))
     fields-complete k (members j) fit room e =
         let at : ℕ = bodyAt p in
         ap (λ (j : Kind). fieldsAt j s p at stop) (fit .0) ∙ cluster-fields s p at stop
@@ -230,7 +229,7 @@ module _ (s : List ℕ) where
         ∙ pass _ _ (le-leb (at + 2) stop room) (pass _ _ (eq-eqb (be s at 2) stampSubtype (word-read at (at + 2) stampSubtype refl (omega arith) e)) refl)
 
     -- a name
-    pub name-complete : (at : ℕ) (m : Name) → stop ≡ at + nameSize m → slice at stop s ≡ nameBytes m → nameAt s p stop at ≡ read stop m
+    pub name-complete : (at : ℕ) (m : Name) → stop ≡ at + nameSize m → slice at stop s ≡ nameBytes m → nameAt s stop at ≡ read stop m
     unfolding nameAt nameSize nameBytes
     name-complete at unnamed last e =
         let z : at ≡ stop = omega arith in

@@ -36,17 +36,17 @@ pub record Sound (s : List ℕ) (levels : ℕ) (inArray : Bool) (end p n q : ℕ
   pub depth : height t ≤ levels
 
 -- the same of k descriptors in a row
-record AllSound (s : List ℕ) (levels : ℕ) (inArray : Bool) (end k p n q : ℕ) (f : Forest) : Type 0 where
-  size : q ≡ p + forestSize f
-  within : q ≤ end
-  bytes : slice p q s ≡ forestWith (reservedIn s) p f
-  count : forestLength f ≡ k
-  formed : AllWellFormed inArray f
-  rows : n + forestRows f ≤ rowLimit
-  depth : forestHeight f ≤ levels
+pub record AllSound (s : List ℕ) (levels : ℕ) (inArray : Bool) (end k p n q : ℕ) (f : Forest) : Type 0 where
+  pub size : q ≡ p + forestSize f
+  pub within : q ≤ end
+  pub bytes : slice p q s ≡ forestWith (reservedIn s) p f
+  pub count : forestLength f ≡ k
+  pub formed : AllWellFormed inArray f
+  pub rows : n + forestRows f ≤ rowLimit
+  pub depth : forestHeight f ≤ levels
 
 -- descriptors in a row, each read by f
-members-sound : (s : List ℕ) (levels : ℕ) (inArray : Bool) (end : ℕ) (f : ℕ → ℕ → Outcome Tree)
+pub members-sound : (s : List ℕ) (levels : ℕ) (inArray : Bool) (end : ℕ) (f : ℕ → ℕ → Outcome Tree)
     → ((p n : ℕ) → Holds (λ q t. Sound s levels inArray end p n q t) (f p n))
     → (k p n : ℕ) → p ≤ end → n ≤ rowLimit → Holds (λ q ts. AllSound s levels inArray end k p n q ts) (membersAt f k p n)
 unfolding membersAt forestSize forestWith forestLength AllWellFormed forestRows forestHeight
@@ -100,14 +100,14 @@ module _ (s : List ℕ) (b : Bytes s) where
     pub string-chars : Chars (slice (p + 1) (p + 1 + getD s p 0) s)
     string-chars = record { bytes = bytes-slice (p + 1) (p + 1 + getD s p 0) s b; most = omega (arith, string-length, bytes-at s b p) }
 
-  -- FFFFFFFF, k times, judged for the descriptor that starts at `start`
-  pub words-spelled : (start k p : ℕ) → p + 4 * k ≤ length s
-      → Holds (λ _ _. slice p (p + 4 * k) s ≡ replicate (4 * k) 255) (judged (wordFits s) start k p)
+  -- FFFFFFFF, k times
+  pub words-spelled : (k p : ℕ) → p + 4 * k ≤ length s
+      → Holds (λ _ _. slice p (p + 4 * k) s ≡ replicate (4 * k) 255) (judged (wordFits s) k p)
   unfolding judged beBytes
-  words-spelled start zero p h = found (ap (λ (q : ℕ). slice p q s) (let z : p + 4 * 0 ≡ p = omega arith in z) ∙ slice-empty p s)
-  words-spelled start (suc k) p h =
+  words-spelled zero p h = found (ap (λ (q : ℕ). slice p q s) (let z : p + 4 * 0 ≡ p = omega arith in z) ∙ slice-empty p s)
+  words-spelled (suc k) p h =
       holds-require (wordFits s p) _ _ (λ full.
-      holds-weaken (words-spelled start k (p + 4) (omega arith)) (λ _ _ more.
+      holds-weaken (words-spelled k (p + 4) (omega arith)) (λ _ _ more.
       let one : slice p (p + 4) s ≡ replicate 4 255 = be-slice s b p 4 (omega arith) ∙ ap (beBytes 4) (eqb-true _ _ full) in
       let last : p + 4 * suc k ≡ p + 4 + 4 * k = omega arith in
       let size : 4 + 4 * k ≡ 4 * suc k = omega arith in
@@ -128,17 +128,17 @@ module _ (s : List ℕ) (b : Bytes s) where
       (pairs-spelled k (p + 4) (omega arith)))
 
   -- and they are within their limits
-  pub pairs-fit : (start k p : ℕ) → Holds (λ _ _. AllPairs (pairsAt s k p)) (judged (baseFits s) start k p)
+  pub pairs-fit : (k p : ℕ) → Holds (λ _ _. AllPairs (pairsAt s k p)) (judged (baseFits s) k p)
   unfolding judged pairsAt AllPairs
-  pairs-fit start zero p = found tt
-  pairs-fit start (suc k) p =
+  pairs-fit zero p = found tt
+  pairs-fit (suc k) p =
       holds-require (baseFits s p) _ _ (λ base.
-      holds-weaken (pairs-fit start k (p + 4)) (λ _ _ more. ((leb-true _ _ base, be-bound s (p + 2) (bytes-at s b) 2), more)))
+      holds-weaken (pairs-fit k (p + 4)) (λ _ _ more. ((leb-true _ _ base, be-bound s (p + 2) (bytes-at s b) 2), more)))
 
   -- the parts of the descriptor at p that ends at `stop`
   module _ (p stop : ℕ) (inside : stop ≤ length s) where
     -- a Pascal string of an enumeration
-    pub item-sound : (at : ℕ) → Holds (λ q x. (slice at q s ≡ pascal x) × Chars x) (itemAt s p stop at)
+    pub item-sound : (at : ℕ) → Holds (λ q x. (slice at q s ≡ pascal x) × Chars x) (itemAt s stop at)
     unfolding itemAt
     item-sound at =
         holds-require (ltb at stop) _ _ (λ _.
@@ -147,7 +147,7 @@ module _ (s : List ℕ) (b : Bytes s) where
         found (string-spelled at h, string-chars at h)))
 
     -- k of them
-    pub items-sound : (k at : ℕ) → at ≤ stop → Holds (λ q xs. (slice at q s ≡ packed xs) × AllChars xs) (itemsAt s p stop k at)
+    pub items-sound : (k at : ℕ) → at ≤ stop → Holds (λ q xs. (slice at q s ≡ packed xs) × AllChars xs) (itemsAt s stop k at)
     unfolding itemsAt packed AllChars
     items-sound zero at h = found (slice-empty at s, tt)
     items-sound (suc k) at h =
@@ -182,7 +182,7 @@ module _ (s : List ℕ) (b : Bytes s) where
     fields-sound plain at start h = rw (plain-fields s p at stop) (found (slice-empty at s, refl))
     fields-sound enumeration at start h =
         rw (enumeration-fields s p at stop)
-        (holds-andThen (count-fits s p at stop countLimit) (λ next k c.
+        (holds-andThen (count-fits s at stop countLimit) (λ next k c.
         holds-andThen (holds-both (items-end s p stop inside k next (c .within)) (items-sound k next (c .within))) (λ last xs i.
         let many : k ≡ length xs = sym (i .0 .1) in
         holds-andThen (fill-sound at last (itemsSize xs) start (omega (arith, i .0 .0 .at, c .next)) (i .0 .0 .within)) (λ q _ f.
@@ -193,9 +193,9 @@ module _ (s : List ℕ) (b : Bytes s) where
         )))))
     fields-sound quantity at start h =
         rw (quantity-fields s p at stop)
-        (holds-andThen (run-fits s p at stop pairLimit) (λ last k r.
+        (holds-andThen (run-fits s at stop pairLimit) (λ last k r.
         let many : k ≡ length (pairsAt s k (at + 2)) = sym (length-pairsAt s k (at + 2)) in
-        holds-andThen (pairs-fit p k (at + 2)) (λ _ _ fit.
+        holds-andThen (pairs-fit k (at + 2)) (λ _ _ fit.
         found (
           slice-then at (at + 2) last s (omega arith) (omega (arith, r .next)) (word-spelled at (at + 2) refl (omega (arith, r .next, r .within)) ∙ ap word (sym (r .word) ∙ many))
               (ap (λ (q : ℕ). slice (at + 2) q s) (r .next) ∙ pairs-spelled k (at + 2) (omega (arith, r .next, r .within))),
@@ -205,13 +205,13 @@ module _ (s : List ℕ) (b : Bytes s) where
         rw (string-fields s p at stop)
         (holds-require (leb (at + 4) stop) _ _ (λ room.
         let in-bytes : at + 4 * 1 ≤ length s = omega (arith, leb-true) in
-        holds-andThen (words-spelled p 1 at in-bytes) (λ _ _ full.
+        holds-andThen (words-spelled 1 at in-bytes) (λ _ _ full.
         let last : at + 4 ≡ at + 4 * 1 = omega arith in
         found (ap (λ (q : ℕ). slice at q s) last ∙ full, refl))))
     fields-sound array at start h =
         rw (array-fields s p at stop)
-        (holds-andThen (run-fits s p at stop dimensionLimit) (λ last k r.
-        holds-andThen (words-spelled p k (at + 2) (omega (arith, r .next, r .within))) (λ _ _ full.
+        (holds-andThen (run-fits s at stop dimensionLimit) (λ last k r.
+        holds-andThen (words-spelled k (at + 2) (omega (arith, r .next, r .within))) (λ _ _ full.
         found (
           slice-then at (at + 2) last s (omega arith) (omega (arith, r .next)) (word-spelled at (at + 2) refl (omega (arith, r .next, r .within)) ∙ ap word (sym (r .word)))
               (ap (λ (q : ℕ). slice (at + 2) q s) (r .next) ∙ full),
@@ -219,7 +219,7 @@ module _ (s : List ℕ) (b : Bytes s) where
         ))))
     fields-sound cluster at start h =
         rw (cluster-fields s p at stop)
-        (holds-andThen (count-fits s p at stop countLimit) (λ next k c.
+        (holds-andThen (count-fits s at stop countLimit) (λ next k c.
         found (count-spelled at countLimit next k c, (refl, record { least = c .least; within = c .limit }))))
     fields-sound stamp at start h =
         rw (stamp-fields s p at stop)
@@ -229,7 +229,7 @@ module _ (s : List ℕ) (b : Bytes s) where
     fields-sound unknown at start h = rw (unknown-fields s p at stop) nothing
 
     -- a name
-    pub name-sound : (at : ℕ) → Holds (λ q m. (slice at q s ≡ nameBytes m) × NameFits m) (nameAt s p stop at)
+    pub name-sound : (at : ℕ) → Holds (λ q m. (slice at q s ≡ nameBytes m) × NameFits m) (nameAt s stop at)
     unfolding nameAt nameBytes NameFits
     name-sound at =
         holds-cond (eqb at stop) (λ _. found (slice-empty at s, tt))

@@ -38,11 +38,11 @@ read-kind : (k : Kind) (s : List ℕ) (p at stop : ℕ) → Holds (λ q b. (fiel
 unfolding fieldsRead fieldsKind Counted
 read-kind plain s p at stop = found (refl, tt)
 read-kind enumeration s p at stop =
-    holds-andThen (holds-self (countAt s p at stop countLimit)) (λ next k _. holds-andThen (holds-self (itemsAt s p stop k next)) (λ _ xs _. found (refl, tt)))
-read-kind quantity s p at stop = holds-andThen (holds-self (runAt s p at stop pairLimit)) (λ _ k _. found (refl, tt))
+    holds-andThen (holds-self (countAt s at stop countLimit)) (λ next k _. holds-andThen (holds-self (itemsAt s stop k next)) (λ _ xs _. found (refl, tt)))
+read-kind quantity s p at stop = holds-andThen (holds-self (runAt s at stop pairLimit)) (λ _ k _. found (refl, tt))
 read-kind string s p at stop = holds-require (leb (at + 4) stop) _ _ (λ _. found (refl, tt))
-read-kind array s p at stop = holds-andThen (run-fits s p at stop dimensionLimit) (λ _ k fits. found (refl, (fits .least, fits .limit)))
-read-kind cluster s p at stop = holds-andThen (count-fits s p at stop countLimit) (λ _ k fits. found (refl, fits .least))
+read-kind array s p at stop = holds-andThen (run-fits s at stop dimensionLimit) (λ _ k fits. found (refl, (fits .least, fits .limit)))
+read-kind cluster s p at stop = holds-andThen (count-fits s at stop countLimit) (λ _ k fits. found (refl, fits .least))
 read-kind stamp s p at stop = holds-require (leb (at + 2) stop) _ _ (λ _. holds-require (eqb (be s at 2) stampSubtype) _ _ (λ _. found (refl, tt)))
 read-kind unknown s p at stop = nothing
 
@@ -50,7 +50,7 @@ fields-kind : (k : Kind) (s : List ℕ) (p at stop : ℕ) → Holds (λ q b. (fi
 unfolding fieldsAt
 fields-kind k s p at stop =
     holds-andThen (read-kind k s p at stop) (λ next b e.
-    holds-andThen (holds-self (contentsAt s p at b)) (λ _ _ _. holds-andThen (holds-self (filledAt s p stop next b)) (λ last _ _. found e)))
+    holds-andThen (holds-self (contentsAt s at b)) (λ _ _ _. holds-andThen (holds-self (filledAt s p stop next b)) (λ last _ _. found e)))
 
 -- the fields of a kind whose counts are not 0, and as many descriptors inside as they say
 fields-solid : (c : ℕ) (b : Fields) (f : Forest) → fieldsKind b ≡ kindOf c → Counted b → forestLength f ≡ childCount b → SolidFields c b f

@@ -21,8 +21,8 @@ ghost use Rattle.resolution.specs.Record.{resolved};
 ghost use Rattle.timestamp.specs.Difference.{difference};
 
 // Reads any bytes as a descriptor. Accepted: number 0, input 0, the place is the row count, and the table has a row for each descriptor
-// in order of first byte, zero rows after them. Refused: the number 1 to 12 that comes first in document 01's order, input 1, the place
-// of the descriptor at fault (0 for 1, the top's size for 12), and a table of zero rows.
+// in order of first byte, zero rows after them. Refused: the number 1 to 12 that comes first in document 01's order, input 1, its place
+// (of 5 and 8 to 11 by document 02's CR 3), and a table of zero rows.
 #[no_mangle]
 pub extern "C" fn kc_check_descriptor(descriptor: &[u8]) -> Checked
     ensures { λ r. ⌜ r ≡ withTable (descriptorCheck (now (descriptor .entry))) ⌝ }
@@ -31,8 +31,8 @@ pub extern "C" fn kc_check_descriptor(descriptor: &[u8]) -> Checked
 }
 
 // Whether two descriptors are equal: the same tree, low codes, counts, items, pairs and names; "Only the reserved byte is ignored."
-// Accepted: number 0, input 0, place 0, and yes or no. Refused: 1 to 12, the place in the descriptor at fault, and no; input 1 where the
-// first is no descriptor, else input 2.
+// Accepted: number 0, input 0, place 0, and yes or no. Refused: 1 to 12, its place, and no; input 1 where the first is no descriptor,
+// else input 2.
 #[no_mangle]
 pub extern "C" fn kc_compare(first: &[u8], second: &[u8]) -> Compared
     ensures { λ r. ⌜ r ≡ comparison (now (first .entry)) (now (second .entry)) ⌝ }

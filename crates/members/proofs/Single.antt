@@ -38,7 +38,7 @@ record Placed (d : List ℕ) (x : ℕ) (m : Name) : Type 0 where
   is : namedAt d x ≡ m
   within : 0 < x → x + getD d (x - 1) 0 ≤ length d
 
-name-placed : (d : List ℕ) (p stop at : ℕ) → stop ≤ length d → Holds (λ q m. Placed d (namePlace at m) m) (nameAt d p stop at)
+name-placed : (d : List ℕ) (p stop at : ℕ) → stop ≤ length d → Holds (λ q m. Placed d (namePlace at m) m) (nameAt d stop at)
 unfolding nameAt namePlace namedAt charsAt
 name-placed d p stop at inside =
     holds-cond (eqb at stop) (λ _. found (record { is = refl; within = λ h. absurd (omega arith) }))

@@ -35,13 +35,13 @@ module _ (s : List ℕ) (p stop : ℕ) (here : Stands s p) (ends : stop ≡ p + 
       record { from = omega (arith, at, items-there .room, ends, whole .opened .size); inside = omega (arith, ends, whole .opened .size, whole .opened .inside); small = here .small }
 
   -- after them
-  module _ (w : Step) (passed : w ≡ counted length (itemsAt s p stop (b .count) (b .at))) where
+  module _ (w : Step) (passed : w ≡ counted length (itemsAt s stop (b .count) (b .at))) where
     next : w .next ≡ items-there .last
     unfolding insideBy
     next =
         let end : stop ≡ whole .end = omega (arith, ends, whole .opened .size) in
         let step : w ≡ readStep (items-there .last) (length (items-there .all)) 0 =
-        passed ∙ (λ i. counted length (itemsAt s p (end i) (ap (λ (y : Inside). y .count) known i) (ap (λ (y : Inside). y .at) known i))) ∙ ap (λ o. counted length o) (items-there .eq) in
+        passed ∙ (λ i. counted length (itemsAt s (end i) (ap (λ (y : Inside). y .count) known i) (ap (λ (y : Inside). y .at) known i))) ∙ ap (λ o. counted length o) (items-there .eq) in
         ap (λ (y : Step). y .next) step
 
     pub items-past : p ≤ w .next

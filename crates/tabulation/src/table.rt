@@ -82,7 +82,7 @@ pub fn shape(d: &[u8], p: usize, stop: usize) -> Inside
     if !is_enumeration(code_at(d, p)) {
         return b;
     }
-    let w = packed_strings(d, p, stop, b.count, b.at);
+    let w = packed_strings(d, stop, b.count, b.at);
     Inside {
         at: w.next + (w.next - p) % 2,
         count: b.count,

@@ -94,7 +94,7 @@ module _ (s : List ℕ) (f : Bool → ℕ → ℕ → ℕ → Outcome Tree) (p n
     node-rest : nodeAt s f p n body h ≡ andThen (restAt (kindOf (h .code)) s p at stop next) (λ last m. read last (node (h .code) b ts m))
     unfolding nodeAt restAt
     node-rest =
-        rw (e, c, fits) (sym (require-then (not (isStamp (kindOf (h .code))) || stampAt s at) 10 p (nameAt s p stop next) (λ last m. read last (node (h .code) b ts m))))
+        rw (e, c, fits) (sym (require-then (not (isStamp (kindOf (h .code))) || stampAt s at) 10 p (nameAt s stop next) (λ last m. read last (node (h .code) b ts m))))
 
     pub rest-lost : (number place : ℕ) → restAt (kindOf (h .code)) s p at stop next ≡ refused number place → nodeAt s f p n body h ≡ refused number place
     rest-lost number place d = node-rest ∙ ap (λ (o : Outcome Name). andThen o (λ last m. read last (node (h .code) b ts m))) d

@@ -14,10 +14,10 @@ use Rattle.descriptor.specs.Table.{nameLength}
 use Rattle.descriptor.specs.inner.Steps.{counted, readStep}
 
 -- a Pascal string with a zero byte after it where its bytes are odd in number
-pub name-read : (s : List ℕ) (p stop at : ℕ) → stop ≤ length s → (at ≡ stop → ⊥) → at + 1 + getD s at 0 + (1 + getD s at 0) % 2 ≡ stop
-    → ((1 + getD s at 0) % 2 ≡ 0) ⊎ (getD s (at + 1 + getD s at 0) 0 ≡ 0) → counted nameLength (nameAt s p stop at) ≡ readStep stop (getD s at 0) 0
+pub name-read : (s : List ℕ) (stop at : ℕ) → stop ≤ length s → (at ≡ stop → ⊥) → at + 1 + getD s at 0 + (1 + getD s at 0) % 2 ≡ stop
+    → ((1 + getD s at 0) % 2 ≡ 0) ⊎ (getD s (at + 1 + getD s at 0) 0 ≡ 0) → counted nameLength (nameAt s stop at) ≡ readStep stop (getD s at 0) 0
 unfolding nameAt nameLength
-name-read s p stop at inside some whole zero =
+name-read s stop at inside some whole zero =
     let n = getD s at 0 in
     let len : length (slice (at + 1) (at + 1 + n) s) ≡ n = length-slice (at + 1) (at + 1 + n) s (omega arith) ∙ omega arith in
     let filled : (eqb ((1 + n) % 2) 0 || eqb (getD s (at + 1 + n) 0) 0) ≡ true =

@@ -57,7 +57,7 @@ module _ (s : List ℕ) (p at stop : ℕ) where
   plain-empty = rw (plain-fields s p at stop) (found refl)
 
   cluster-members : Holds (λ q b. b ≡ members (be s at 2)) (fieldsAt cluster s p at stop)
-  cluster-members = rw (cluster-fields s p at stop) (holds-andThen (count-fits s p at stop countLimit) (λ last k c. found (ap members (c .word))))
+  cluster-members = rw (cluster-fields s p at stop) (holds-andThen (count-fits s at stop countLimit) (λ last k c. found (ap members (c .word))))
 
   stamp-subtype : Holds (λ q b. b ≡ subtype) (fieldsAt stamp s p at stop)
   stamp-subtype = rw (stamp-fields s p at stop) (holds-require (leb (at + 2) stop) _ _ (λ _. holds-require (eqb (be s at 2) stampSubtype) _ _ (λ _. found refl)))

@@ -27,37 +27,37 @@ ghost use Rattle.descriptor.specs.inner.Steps.{counted, fieldsStep, entryFits, 
 ghost use Rattle.descriptor.specs.inner.Promises.{Within, Run};
 
 // The count at the body's first word: 8 where it is missing, 9 where it is not from 1 to `most`.
-fn count_word(d: &[u8], p: usize, at: usize, stop: usize, most: usize) -> Step
+fn count_word(d: &[u8], at: usize, stop: usize, most: usize) -> Step
     requires { ⌜ Within (now d) at stop ⌝ }
-    ensures { λ r. ⌜ r ≡ counted (λ k. k) (countAt (now (d .entry)) p at stop most) ⌝ }
+    ensures { λ r. ⌜ r ≡ counted (λ k. k) (countAt (now (d .entry)) at stop most) ⌝ }
 {
     if stop < at + 2 {
-        return overrun(p, stop);
+        return overrun(stop);
     }
     let k = be16(d, at);
     if k < 1 {
-        return bad_count(p, at);
+        return bad_count(at);
     }
     if most < k {
-        return bad_count(p, at);
+        return bad_count(at);
     }
     accept(at + 2, k, 0)
 }
 
 // k Pascal strings packed from `start` on; the value is k.
-pub fn packed_strings(d: &[u8], p: usize, stop: usize, k: usize, start: usize) -> Step
+pub fn packed_strings(d: &[u8], stop: usize, k: usize, start: usize) -> Step
     requires { ⌜ Within (now d) start stop ⌝ }
-    ensures { λ r. ⌜ r ≡ counted length (itemsAt (now (d .entry)) p stop k start) ⌝ }
+    ensures { λ r. ⌜ r ≡ counted length (itemsAt (now (d .entry)) stop k start) ⌝ }
 {
     let mut at = start;
     let mut i = 0;
     while i < k {
         if stop <= at {
-            return overrun(p, stop);
+            return overrun(stop);
         }
         let next = at + 1 + wide(d[at]);
         if stop < next {
-            return overrun(p, stop);
+            return overrun(stop);
         }
         at = next;
         i += 1;
@@ -71,25 +71,25 @@ fn enumeration_fields(d: &[u8], p: usize, body: usize, stop: usize) -> Step
     requires { ⌜ p ≤ body ⌝ }
     ensures { λ r. ⌜ r ≡ fieldsStep (fieldsAt enumeration (now (d .entry)) p body stop) ⌝ }
 {
-    let c = count_word(d, p, body, stop, COUNT_LIMIT);
+    let c = count_word(d, body, stop, COUNT_LIMIT);
     if !c.ok {
         return c;
     }
-    let w = packed_strings(d, p, stop, c.value, c.next);
+    let w = packed_strings(d, stop, c.value, c.next);
     if !w.ok {
         return w;
     }
-    let at = w.next;
-    if (at - p) % 2 == 0 {
-        return accept(at, w.value, 0);
+    let fill = w.next;
+    if (fill - p) % 2 == 0 {
+        return accept(fill, w.value, 0);
     }
-    if stop <= at {
-        return overrun(p, stop);
+    if stop <= fill {
+        return overrun(stop);
     }
-    if d[at] != 0 {
-        return bad_contents(p, at);
+    if d[fill] != 0 {
+        return bad_contents(fill);
     }
-    accept(at + 1, w.value, 0)
+    accept(fill + 1, w.value, 0)
 }
 
 // Whether the entry of four bytes at `at` is right: a unit pair's base index, or a fixed word.
@@ -104,15 +104,15 @@ fn entry_fits(d: &[u8], pairs: bool, at: usize) -> bool
 }
 
 // The k entries of four bytes from `start` on, each judged: 10 at the first that is wrong.
-fn judge_entries(d: &[u8], pairs: bool, p: usize, k: usize, start: usize) -> Step
+fn judge_entries(d: &[u8], pairs: bool, k: usize, start: usize) -> Step
     requires { ⌜ Run (now d) start (4 * k) ⌝ }
-    ensures { λ r. ⌜ r ≡ counted (λ _. 0) (judged (entryFits (now (d .entry)) pairs) p k start) ⌝ }
+    ensures { λ r. ⌜ r ≡ counted (λ _. 0) (judged (entryFits (now (d .entry)) pairs) k start) ⌝ }
 {
     let mut at = start;
     let mut i = 0;
     while i < k {
         if !entry_fits(d, pairs, at) {
-            return bad_contents(p, at);
+            return bad_contents(at);
         }
         at += 4;
         i += 1;
@@ -121,33 +121,33 @@ fn judge_entries(d: &[u8], pairs: bool, p: usize, k: usize, start: usize) -> Ste
 }
 
 // A count and that many words of four bytes after it: 8 where one is missing.
-fn counted_words(d: &[u8], p: usize, at: usize, stop: usize, most: usize) -> Step
+fn counted_words(d: &[u8], at: usize, stop: usize, most: usize) -> Step
     requires { ⌜ Within (now d) at stop ⌝ }
     requires { ⌜ most ≤ countLimit ⌝ }
-    ensures { λ r. ⌜ r ≡ counted (λ k. k) (runAt (now (d .entry)) p at stop most) ⌝ }
+    ensures { λ r. ⌜ r ≡ counted (λ k. k) (runAt (now (d .entry)) at stop most) ⌝ }
 {
-    let c = count_word(d, p, at, stop, most);
+    let c = count_word(d, at, stop, most);
     if !c.ok {
         return c;
     }
     let next = c.next + 4 * c.value;
     if stop < next {
-        return overrun(p, stop);
+        return overrun(stop);
     }
     accept(next, c.value, 0)
 }
 
 // The same, each word judged: unit pairs and dimension words alike.
-fn judged_words(d: &[u8], pairs: bool, p: usize, at: usize, stop: usize, most: usize) -> Step
+fn judged_words(d: &[u8], pairs: bool, at: usize, stop: usize, most: usize) -> Step
     requires { ⌜ Within (now d) at stop ⌝ }
     requires { ⌜ most ≤ countLimit ⌝ }
-    ensures { λ r. ⌜ r ≡ counted (λ k. k) (wordsAt (now (d .entry)) pairs p at stop most) ⌝ }
+    ensures { λ r. ⌜ r ≡ counted (λ k. k) (wordsAt (now (d .entry)) pairs at stop most) ⌝ }
 {
-    let c = counted_words(d, p, at, stop, most);
+    let c = counted_words(d, at, stop, most);
     if !c.ok {
         return c;
     }
-    let j = judge_entries(d, pairs, p, c.value, at + 2);
+    let j = judge_entries(d, pairs, c.value, at + 2);
     if !j.ok {
         return j;
     }
@@ -160,9 +160,9 @@ fn text_fields(d: &[u8], p: usize, at: usize, stop: usize) -> Step
     ensures { λ r. ⌜ r ≡ fieldsStep (fieldsAt string (now (d .entry)) p at stop) ⌝ }
 {
     if stop < at + 4 {
-        return overrun(p, stop);
+        return overrun(stop);
     }
-    let j = judge_entries(d, false, p, 1, at);
+    let j = judge_entries(d, false, 1, at);
     if !j.ok {
         return j;
     }
@@ -174,7 +174,7 @@ fn array_fields(d: &[u8], p: usize, at: usize, stop: usize) -> Step
     requires { ⌜ Within (now d) at stop ⌝ }
     ensures { λ r. ⌜ r ≡ fieldsStep (fieldsAt array (now (d .entry)) p at stop) ⌝ }
 {
-    let c = judged_words(d, false, p, at, stop, DIMENSION_LIMIT);
+    let c = judged_words(d, false, at, stop, DIMENSION_LIMIT);
     if !c.ok {
         return c;
     }
@@ -186,7 +186,7 @@ fn cluster_fields(d: &[u8], p: usize, at: usize, stop: usize) -> Step
     requires { ⌜ Within (now d) at stop ⌝ }
     ensures { λ r. ⌜ r ≡ fieldsStep (fieldsAt cluster (now (d .entry)) p at stop) ⌝ }
 {
-    let c = count_word(d, p, at, stop, COUNT_LIMIT);
+    let c = count_word(d, at, stop, COUNT_LIMIT);
     if !c.ok {
         return c;
     }
@@ -196,10 +196,11 @@ fn cluster_fields(d: &[u8], p: usize, at: usize, stop: usize) -> Step
 // A time stamp's subtype word; its part follows.
 fn stamp_fields(d: &[u8], p: usize, at: usize, stop: usize) -> Step
     requires { ⌜ Within (now d) at stop ⌝ }
+    requires { ⌜ p ≤ at ⌝ }
     ensures { λ r. ⌜ r ≡ fieldsStep (fieldsAt stamp (now (d .entry)) p at stop) ⌝ }
 {
     if stop < at + 2 {
-        return overrun(p, stop);
+        return overrun(stop);
     }
     if be16(d, at) != STAMP_SUBTYPE {
         return not_carried(p);
@@ -217,7 +218,7 @@ pub fn fields(d: &[u8], code: u8, p: usize, body: usize, stop: usize) -> Step
     match k {
         Kind::Plain => accept(body, 0, 0),
         Kind::Enumeration => enumeration_fields(d, p, body, stop),
-        Kind::Quantity => judged_words(d, true, p, body, stop, PAIR_LIMIT),
+        Kind::Quantity => judged_words(d, true, body, stop, PAIR_LIMIT),
         Kind::Text => text_fields(d, p, body, stop),
         Kind::Array => array_fields(d, p, body, stop),
         Kind::Cluster => cluster_fields(d, p, body, stop),

@@ -9,10 +9,10 @@ ghost use Rattle.descriptor.specs.Table.{nameLength};
 ghost use Rattle.descriptor.specs.inner.Steps.{counted};
 ghost use Rattle.descriptor.specs.inner.Promises.{Within};
 
-// What is left of the descriptor at p from `at` up to `stop`, as a name; the value is its length. There is none where `at` is `stop`.
-pub fn name(d: &[u8], p: usize, stop: usize, at: usize) -> Step
+// What is left of a descriptor from `at` up to `stop`, as a name; the value is its length. There is none where `at` is `stop`.
+pub fn name(d: &[u8], stop: usize, at: usize) -> Step
     requires { ⌜ Within (now d) at stop ⌝ }
-    ensures { λ r. ⌜ r ≡ counted nameLength (nameAt (now (d .entry)) p stop at) ⌝ }
+    ensures { λ r. ⌜ r ≡ counted nameLength (nameAt (now (d .entry)) stop at) ⌝ }
 {
     if at == stop {
         return accept(at, 0, 0);
@@ -21,11 +21,11 @@ pub fn name(d: &[u8], p: usize, stop: usize, at: usize) -> Step
     let last = at + 1 + len;
     let odd = (1 + len) % 2;
     if last + odd != stop {
-        return no_name(p, at);
+        return no_name(at);
     }
     if odd != 0 {
         if d[last] != 0 {
-            return no_name(p, at);
+            return no_name(at);
         }
     }
     accept(stop, len, 0)

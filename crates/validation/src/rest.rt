@@ -67,5 +67,5 @@ pub fn rest(d: &[u8], code: u8, p: usize, inside: usize, stop: usize, at: usize)
             return refuse(10, p);
         }
     }
-    name(d, p, stop, at)
+    name(d, stop, at)
 }

@@ -44,13 +44,49 @@ fn an_array_in_an_array_is_refused_at_the_inner_one() {
     let inner = [0, 14, 0, 0x40, 0, 1, 0xFF, 0xFF, 0xFF, 0xFF, 0, 4, 0, 0x0A];
     let outer = [0, 24, 0, 0x40, 0, 1, 0xFF, 0xFF, 0xFF, 0xFF];
     let checked = check_descriptor(&[&outer[..], &inner].concat());
-    assert_eq!(checked.answer, answer(10, 1, 10));
+    assert_eq!(checked.answer, answer(10, 1, 13));
     assert!(
         checked
             .rows
             .iter()
             .all(|row| row.size == 0 && row.code == 0)
     );
+}
+
+/// Document 02, CR 3: the place of 5 and 8 to 11 is the byte, not the start. Each
+/// stands in a cluster, at 6, before a member that is right.
+#[test]
+fn a_refusal_points_at_the_byte() {
+    let cases: [(&[u8], u32, u32); 16] = [
+        (b"\x00\x04\x00\x32", 5, 9),
+        (b"\x00\x06\x00\x54\x00\x05", 5, 9),
+        (b"\x00\x04\x00\x50", 8, 10),
+        (b"\x00\x04\x00\x54", 8, 10),
+        (b"\x00\x06\x00\x30\xFF\xFF", 8, 12),
+        (b"\x00\x08\x00\x15\x00\x02\x01a", 8, 14),
+        (b"\x00\x0A\x00\x19\x00\x02\x00\x09\x00\x01", 8, 16),
+        (b"\x00\x06\x00\x15\x00\x00", 9, 10),
+        (b"\x00\x06\x00\x40\x00\x05", 9, 10),
+        (b"\x00\x08\x00\x30\xFF\xFF\xFF\xFE", 10, 10),
+        (
+            b"\x00\x0E\x00\x19\x00\x02\x00\x08\x00\x09\x00\x09\x00\x01",
+            10,
+            16,
+        ),
+        (b"\x00\x0A\x00\x15\x00\x01\x02ab\x01", 10, 15),
+        (b"\x00\x0A\x00\x54\x00\x06\x00\x04\x00\x03", 10, 6),
+        (b"\x00\x06\x00\x03\x02a", 11, 10),
+        (b"\x00\x08\x00\x03\x02ab\x01", 11, 10),
+        (b"\x00\x0C\x00\x50\x00\x01\x00\x04\x00\x03\x02a", 11, 16),
+    ];
+    for (member, number, place) in cases {
+        let size = 10 + member.len() as u8;
+        let types = [&[0, size, 0, 0x50, 0, 2], member, &P1].concat();
+        let checked = check_descriptor(&types);
+        assert_eq!(checked.answer, answer(number, 1, place), "{member:02X?}");
+        let compared = compare(&P1, &types);
+        assert_eq!(compared.answer, answer(number, 2, place), "{member:02X?}");
+    }
 }
 
 #[test]

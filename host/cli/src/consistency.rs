@@ -18,7 +18,7 @@ use crate::command::Request;
 use crate::descriptor::Descriptor;
 use crate::difference;
 use crate::input::Input;
-use crate::layout::{self, Field, Sort};
+use crate::layout::{self, Field, Layout, Sort};
 use crate::outcome::{Outcome, Status};
 use crate::refusal::{Lent, Refusal};
 use crate::tokens::{self, Found, Order, Part};
@@ -298,20 +298,23 @@ fn a_refused_descriptor_has_the_path_of_its_row() {
         let answer = kerbcanopy::check_descriptor(&bytes).answer;
         let whole = layout::of(&bytes, answer).fields;
         for (row, path) in paths(&types.rows).iter().enumerate().step_by(rows / 6 + 1) {
-            for (damaged, number) in damage::of_row(&types, row) {
+            let start = usize::from(types.rows[row].start);
+            for (damaged, number, place) in damage::of_row(&types, row) {
                 let answer = kerbcanopy::check_descriptor(&damaged).answer;
-                let place = u32::from(types.rows[row].start);
                 assert_eq!(
-                    (answer.number, answer.place),
+                    (answer.number, answer.place as usize),
                     (number, place),
                     "{damaged:02X?}"
                 );
                 let file = input(&damaged);
                 falls_in(&types, answer, &Lent::descriptors(&file, None), path);
-                let fields = layout::of(&damaged, answer).fields;
+                let Layout { fields, facts, .. } = layout::of(&damaged, answer);
                 tiles(&fields, damaged.len());
+                // Where it starts is told where the place is not its start.
+                let told = facts.contains(&format!("; its descriptor starts at {start}"));
+                assert_eq!(told, place != start, "{facts}");
                 // What was read before it is read as ever.
-                let before = |field: &&Field| field.bytes.end <= place as usize;
+                let before = |field: &&Field| field.bytes.end <= start;
                 assert!(whole.iter().filter(before).eq(fields.iter().filter(before)));
             }
         }

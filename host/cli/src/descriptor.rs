@@ -2,6 +2,8 @@
 
 use kerbcanopy::Row;
 
+/// Where a descriptor's low code byte stands, from its own start.
+pub const CODE: usize = 3;
 /// Where a descriptor's body starts, from its own start: behind size and code.
 pub const BODY: usize = 4;
 /// Where the contents behind a count word start.

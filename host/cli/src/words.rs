@@ -40,6 +40,15 @@ pub fn thing(code: u16) -> &'static str {
     }
 }
 
+/// What a count word may say.
+pub fn counts(code: u16) -> &'static str {
+    match code {
+        0x19..=0x1E => "not 1 to 9",
+        0x40 => "not 1 to 4",
+        _ => "at least 1 is needed",
+    }
+}
+
 fn real(kind: u16) -> &'static str {
     let kinds = [
         "single",

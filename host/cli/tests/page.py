@@ -30,6 +30,8 @@ CASES = [
     ("a Boolean of FF", "0016 0050 0002 0008 0007 0269 6400 0008 0021 036C 6974", "0000 0009 FF"),
     ("many strings, the last cut", STRINGS, "0000 0040" + " 00000002 6162" * 63 + " 00000009 61"),
     ("array in array", "0018 0040 0001 FFFF FFFF 000E 0040 0001 FFFF FFFF 0004 000A", None),
+    ("no room for a length word, at the end", "000A 0050 0001 0004 0030", None),
+    ("no room for a length word, before another", "000E 0050 0002 0004 0030 0004 0003", None),
     ("no bytes at all", "", None),
     ("a name that is none", "0050 0050 0009" + " 0008 0003 0361 6263" * 9 + " 0961", None),
     ("foreign text in a name", "0026 0003 213C 7363 7269 7074 3E64 6F63 756D 656E 742E 7469 746C 653D 313C 2F73 6372 6970 743E", None),
@@ -51,6 +53,7 @@ LOOK = """(() => {
     marked: [...document.querySelectorAll(".bytes .place")].map((e) => ({
       at: Number(e.dataset.at), text: e.textContent, seen: seen(e), ground: style(e), file: e.closest("section").querySelector("h1").firstChild.data.trim() })),
     fields: [...document.querySelectorAll(".fields .place")].map((e) => e.textContent),
+    faults: [...document.querySelectorAll(".fields .fault")].map((e) => e.textContent),
     plain: style(document.body),
     bytes: [...first.querySelectorAll(".bytes b[data-f]")].map((e) => e.textContent).join(""),
     alert: document.querySelector(".refusal")?.textContent ?? null,
@@ -189,7 +192,9 @@ def look(count, browser, name, sections, width):
     count.see(f"{here}: the marked byte is the refusal's place", (mark["at"], mark["text"]) == (place, byte), (mark, place, byte))
     count.see(f"{here}: it stands in the file at fault", answer["file"].endswith(mark["file"]), mark)
     count.see(f"{here}: the mark can be seen", mark["seen"] and mark["ground"] != seen["plain"], mark)
-    count.see(f"{here}: its meaning is marked too", len(seen["fields"]) == (place < length), seen["fields"])
+    # Behind the last byte there is no field, but what is missing there may be one.
+    marked = 1 if place < length else len(seen["faults"])
+    count.see(f"{here}: its meaning is marked too", len(seen["fields"]) == marked, seen["fields"])
 
 
 def point(count, browser, name, sections, width):

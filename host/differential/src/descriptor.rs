@@ -3,5 +3,6 @@
 
 pub mod case;
 pub mod damage;
+pub mod fault;
 pub mod hold;
 pub mod limits;

@@ -88,6 +88,30 @@ pub fn for_record(random: &mut Random) -> Vec<Tree> {
     members(random, 1, &mut room)
 }
 
+/// A small tree that must be accepted, at most three levels deep.
+pub fn small(random: &mut Random) -> Tree {
+    let mut room = Room {
+        rows: 8,
+        bytes: 60,
+        depth: 3,
+        lawless: false,
+        style: Style::Usual,
+    };
+    grow(random, 1, &mut room, false)
+}
+
+/// One without parts.
+pub fn flat(random: &mut Random) -> Tree {
+    let mut room = Room {
+        rows: 1,
+        bytes: 40,
+        depth: 1,
+        lawless: false,
+        style: Style::Usual,
+    };
+    grow(random, 1, &mut room, false)
+}
+
 /// A tree that may have too many rows or bytes, or be too deep, or break rules
 /// inside its bodies.
 pub fn wild(random: &mut Random) -> Tree {

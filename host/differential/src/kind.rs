@@ -15,6 +15,7 @@ pub enum Kind {
     Tree,
     Tight,
     Damaged,
+    Pointed,
     Wild,
     Headed,
     Random,
@@ -66,7 +67,7 @@ const OF_DESCRIPTORS: [u32; 12] = [1, 2, 3, 4, 5, 6, 7, 8, 9, 10, 11, 12];
 const OF_DATA: [u32; 5] = [20, 21, 22, 23, 25];
 
 /// Every kind, in the order of the enum.
-pub const KINDS: [Known; 23] = {
+pub const KINDS: [Known; 24] = {
     use Area::{Data, Descriptor, Interval, Record};
     [
         known(
@@ -87,6 +88,12 @@ pub const KINDS: [Known; 23] = {
             Descriptor,
             ["damaged", "damaged trees"],
             &OF_DESCRIPTORS,
+        ),
+        known(
+            Kind::Pointed,
+            Descriptor,
+            ["pointed", "faults at a known place"],
+            &[5, 8, 9, 10, 11],
         ),
         known(
             Kind::Wild,

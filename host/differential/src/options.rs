@@ -23,7 +23,7 @@ const FIXED_SEEDS: [u64; 4] = [1, 2, 3, 4];
 /// Cases of each seed in the gate run.
 pub const GATE_CASES: u64 = 300_000;
 /// The same when a memory checker looks on, which takes one fixed seed.
-const EXACT_CASES: u64 = 10_300;
+const EXACT_CASES: u64 = 10_600;
 /// The longest run, in minutes.
 const MOST_MINUTES: f64 = 100_000.0;
 

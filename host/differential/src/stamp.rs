@@ -14,13 +14,21 @@ pub const SUBTYPES: [u16; 9] = [0, 3, 5, 7, 8, 9, 0x0106, 0x0600, 0xFFFF];
 pub fn wrong(random: &mut Random) -> Body {
     match random.below(3) {
         0 => Body::Stamp(random.pick(&SUBTYPES), Box::new(halves())),
-        1 => Body::Stamp(6, Box::new(stranger(random))),
-        _ => Body::Stamp(6, Box::new(misshapen(random))),
+        _ => Body::Stamp(6, Box::new(other(random))),
+    }
+}
+
+/// What no time stamp holds.
+pub fn other(random: &mut Random) -> Tree {
+    let misshapen = misshapen(random);
+    match random.once_in(2) || misshapen == halves() {
+        true => stranger(random),
+        false => misshapen,
     }
 }
 
 /// What a time stamp holds with another code, a name, a member too many or too few,
-/// or in another order.
+/// or in another order; it may still be right.
 fn misshapen(random: &mut Random) -> Tree {
     let mut held = halves();
     let Body::Cluster(members) = &mut held.body else {

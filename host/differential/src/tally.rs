@@ -1,5 +1,5 @@
 //! Counts what the cases met, and says whether anything of document 01, or of
-//! requests 1 and 2 of document 02, was met too seldom.
+//! requests 1 to 3 of document 02, was met too seldom.
 
 mod data;
 mod descriptor;
@@ -7,6 +7,7 @@ mod flags;
 mod interval;
 mod lines;
 mod met;
+mod places;
 mod record;
 mod table;
 
@@ -26,6 +27,7 @@ pub struct Tally {
     depths: Table,
     codes: Table,
     bodies: Table,
+    places: Table,
     rooms: Table,
     comparisons: Table,
     records: Table,
@@ -55,6 +57,7 @@ impl Tally {
             depths: met::depths(),
             codes: met::codes(),
             bodies: met::bodies(),
+            places: places::places(),
             rooms: met::rooms(),
             comparisons,
             records: record::reasons(),
@@ -73,7 +76,7 @@ impl Tally {
         self.lines.add(&other.lines);
     }
 
-    fn tables(&self) -> [&Table; 13] {
+    fn tables(&self) -> [&Table; 14] {
         let [descriptors, data, records, intervals] = &self.kinds;
         [
             &self.answers,
@@ -84,6 +87,7 @@ impl Tally {
             &self.depths,
             &self.codes,
             &self.bodies,
+            &self.places,
             &self.rooms,
             &self.comparisons,
             &self.records,
@@ -92,7 +96,7 @@ impl Tally {
         ]
     }
 
-    fn tables_mut(&mut self) -> [&mut Table; 13] {
+    fn tables_mut(&mut self) -> [&mut Table; 14] {
         let [descriptors, data, records, intervals] = &mut self.kinds;
         [
             &mut self.answers,
@@ -103,6 +107,7 @@ impl Tally {
             &mut self.depths,
             &mut self.codes,
             &mut self.bodies,
+            &mut self.places,
             &mut self.rooms,
             &mut self.comparisons,
             &mut self.records,

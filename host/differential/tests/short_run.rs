@@ -61,6 +61,7 @@ fn what_was_met_is_printed() {
         "by depth",
         "code ",
         "bodies",
+        "place ",
         "room",
         "compared, differing in",
         "because",

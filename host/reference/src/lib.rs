@@ -1,8 +1,8 @@
 //! The questions of document 01 about a descriptor and its data, answered a
 //! second time in safe Rust: descriptor check, compare and normal form; data
 //! check, view, value, to little-endian and back; the record in a reader's
-//! shape; and, as document 02 asks, time stamps and their difference, and Booleans
-//! of any byte. Nothing here allocates.
+//! shape; and, as document 02 asks, time stamps and their difference, Booleans of
+//! any byte, and refusals that point at the byte. Nothing here allocates.
 #![forbid(unsafe_code)]
 
 mod copy;

@@ -1,6 +1,7 @@
 //! The walk over a descriptor: each rule of building, judged in document 01's
-//! order. Parents wait on a small stack, so the walk has one loop and no
-//! recursion; every place counts from the first lent byte.
+//! order, with the places of document 02's request 3. Parents wait on a small
+//! stack, so the walk has one loop and no recursion; every place counts from the
+//! first lent byte.
 
 use std::mem::replace;
 
@@ -69,7 +70,7 @@ struct Header {
     kind: Kind,
 }
 
-/// Where a body ends and the count it gave.
+/// Where a body ends, counted from the first lent byte, and the count it gave.
 struct Body {
     end: usize,
     count: u16,
@@ -102,7 +103,7 @@ pub(crate) fn walk<V: Visitor>(bytes: &[u8], visitor: &mut V) -> Result<usize, R
             depth += 1;
             start = body.end;
         } else {
-            let name = read_name(own, body.end, start)?;
+            let name = read_name(own, body.end)?;
             (row.name_place, row.name_length) = (name.place, name.length);
             visitor.row(index, row);
             start = own.len();
@@ -126,8 +127,8 @@ pub(crate) fn refuse<T>(number: u32, place: usize) -> Result<T, Refusal> {
     Err(Refusal { number, place })
 }
 
-/// Refusals 2 to 5 of the descriptor at `start`; `inside` ends where its
-/// parent does.
+/// Refusals 2 to 5 of the descriptor at `start`, 5 at its low code byte; `inside`
+/// ends where its parent does.
 #[inline(always)]
 fn read_header(inside: &[u8], start: usize) -> Result<Header, Refusal> {
     let left = &inside[start..];
@@ -143,12 +144,12 @@ fn read_header(inside: &[u8], start: usize) -> Result<Header, Refusal> {
     }
     let kind = KINDS[usize::from(code)];
     if kind == Kind::Foreign {
-        return refuse(5, start);
+        return refuse(5, start + 3);
     }
     Ok(Header { size, code, kind })
 }
 
-/// Refusals 6 and 7, then 10 for an array in an array.
+/// Refusals 6 and 7, then 10 for an array in an array, at its low code byte.
 #[inline(always)]
 fn check_standing(
     header: &Header,
@@ -164,7 +165,7 @@ fn check_standing(
         return refuse(7, start);
     }
     if parent == 0x40 && header.kind == Kind::Array {
-        return refuse(10, start);
+        return refuse(10, start + 3);
     }
     Ok(())
 }
@@ -185,96 +186,119 @@ fn read_body(kind: Kind, own: &[u8], start: usize) -> Result<Body, Refusal> {
 /// What an array, a cluster or a time stamp holds is left to the walk.
 #[inline(never)]
 fn read_long_body(kind: Kind, own: &[u8], start: usize) -> Result<Body, Refusal> {
-    let behind_header = &own[start + 4..];
-    let read = match kind {
-        Kind::Foreign | Kind::Plain => Ok((0, 0)),
-        Kind::Enumeration => enumeration(behind_header),
-        Kind::Quantity => quantity(behind_header),
-        Kind::Text => text(behind_header),
-        Kind::Array => array(behind_header),
-        Kind::Cluster => counted(behind_header, 1, u16::MAX).map(|(count, _)| (2, count)),
-        Kind::Stamp => subtype(behind_header),
-    };
-    match read {
-        Ok((length, count)) => Ok(Body {
-            end: start + 4 + length,
-            count,
+    match kind {
+        Kind::Foreign | Kind::Plain => Ok(Body {
+            end: start + 4,
+            count: 0,
         }),
-        Err(number) => refuse(number, start),
+        Kind::Enumeration => enumeration(own, start),
+        Kind::Quantity => quantity(own, start),
+        Kind::Text => text(own, start),
+        Kind::Array => array(own, start),
+        Kind::Cluster => cluster(own, start),
+        Kind::Stamp => stamp(own, start),
     }
 }
 
-/// The count word and what stands behind it, or 8 where the word is missing,
-/// or 9 where it is outside its limits.
+/// The count word; 8 at the descriptor's end where it is missing, 9 at the word
+/// where it is outside its limits.
 #[inline(always)]
-fn counted(body: &[u8], least: u16, most: u16) -> Result<(u16, &[u8]), u32> {
-    let (word, rest) = body.split_first_chunk::<2>().ok_or(8u32)?;
+fn counted(own: &[u8], start: usize, least: u16, most: u16) -> Result<u16, Refusal> {
+    let Some(word) = own[start + 4..].first_chunk() else {
+        return refuse(8, own.len());
+    };
     let count = u16::from_be_bytes(*word);
     if count < least || count > most {
-        return Err(9);
+        return refuse(9, start + 4);
     }
-    Ok((count, rest))
+    Ok(count)
 }
 
-/// An enumeration's length and item count. The header is 4 bytes long, so the
-/// length so far is odd exactly when the body's is.
-fn enumeration(body: &[u8]) -> Result<(usize, u16), u32> {
-    let (count, _) = counted(body, 1, u16::MAX)?;
-    let mut length = 2;
+/// A count and that many words of four bytes; 10 at the first that is not right.
+#[inline(always)]
+fn counted_words(
+    own: &[u8],
+    start: usize,
+    most: u16,
+    right: impl Fn(&[u8; 4]) -> bool,
+) -> Result<Body, Refusal> {
+    let count = counted(own, start, 1, most)?;
+    let first = start + 6;
+    let end = first + 4 * usize::from(count);
+    let Some(words) = own.get(first..end) else {
+        return refuse(8, own.len());
+    };
+    match words.as_chunks().0.iter().position(|word| !right(word)) {
+        None => Ok(Body { end, count }),
+        Some(wrong) => refuse(10, first + 4 * wrong),
+    }
+}
+
+/// An enumeration's items, and the fill byte where the length so far is odd.
+fn enumeration(own: &[u8], start: usize) -> Result<Body, Refusal> {
+    let count = counted(own, start, 1, u16::MAX)?;
+    let mut end = start + 6;
     for _ in 0..count {
-        let item = *body.get(length).ok_or(8u32)?;
-        length += 1 + usize::from(item);
-        if length > body.len() {
-            return Err(8);
+        let Some(length) = own.get(end) else {
+            return refuse(8, own.len());
+        };
+        end += 1 + usize::from(*length);
+        if end > own.len() {
+            return refuse(8, own.len());
         }
     }
-    if length % 2 == 0 {
-        return Ok((length, count));
+    if (end - start) % 2 == 1 {
+        // The size is even, so this byte is there.
+        if own[end] != 0 {
+            return refuse(10, end);
+        }
+        end += 1;
     }
-    match body.get(length) {
-        None => Err(8),
-        Some(0) => Ok((length + 1, count)),
-        Some(_) => Err(10),
-    }
+    Ok(Body { end, count })
 }
 
-/// A physical quantity's length and pair count.
-fn quantity(body: &[u8]) -> Result<(usize, u16), u32> {
-    let (count, rest) = counted(body, 1, 9)?;
-    let pairs = rest.get(..4 * usize::from(count)).ok_or(8u32)?;
-    let known = |pair: &[u8; 4]| u16::from_be_bytes([pair[0], pair[1]]) <= 8;
-    if !pairs.as_chunks::<4>().0.iter().all(known) {
-        return Err(10);
-    }
-    Ok((2 + pairs.len(), count))
+/// A physical quantity's pairs, each a base index before its exponent.
+fn quantity(own: &[u8], start: usize) -> Result<Body, Refusal> {
+    counted_words(own, start, 9, |[high, low, ..]| {
+        u16::from_be_bytes([*high, *low]) <= 8
+    })
 }
 
 /// A string's length word.
-fn text(body: &[u8]) -> Result<(usize, u16), u32> {
-    match body.first_chunk::<4>() {
-        None => Err(8),
-        Some(&[0xFF, 0xFF, 0xFF, 0xFF]) => Ok((4, 0)),
-        Some(_) => Err(10),
+fn text(own: &[u8], start: usize) -> Result<Body, Refusal> {
+    match own[start + 4..].first_chunk() {
+        None => refuse(8, own.len()),
+        Some([0xFF, 0xFF, 0xFF, 0xFF]) => Ok(Body {
+            end: start + 8,
+            count: 0,
+        }),
+        Some(_) => refuse(10, start + 4),
     }
 }
 
-/// The length of an array's words before its element, and the dimension count.
-fn array(body: &[u8]) -> Result<(usize, u16), u32> {
-    let (count, rest) = counted(body, 1, 4)?;
-    let words = rest.get(..4 * usize::from(count)).ok_or(8u32)?;
-    if words.iter().any(|&byte| byte != 0xFF) {
-        return Err(10);
-    }
-    Ok((2 + words.len(), count))
+/// An array's dimensions.
+fn array(own: &[u8], start: usize) -> Result<Body, Refusal> {
+    counted_words(own, start, 4, |word| *word == [0xFF; 4])
 }
 
-/// The length of a time stamp's subtype word, which stands where others have a
-/// count. Another subtype is a type that is not carried.
-fn subtype(body: &[u8]) -> Result<(usize, u16), u32> {
-    match body.first_chunk::<2>() {
-        None => Err(8),
-        Some(&[0, 6]) => Ok((2, 0)),
-        Some(_) => Err(5),
+/// A cluster's member count.
+fn cluster(own: &[u8], start: usize) -> Result<Body, Refusal> {
+    counted(own, start, 1, u16::MAX).map(|count| Body {
+        end: start + 6,
+        count,
+    })
+}
+
+/// A time stamp's subtype word, which stands where others have a count. Another
+/// subtype is a type that is not carried.
+fn stamp(own: &[u8], start: usize) -> Result<Body, Refusal> {
+    match own[start + 4..].first_chunk() {
+        None => refuse(8, own.len()),
+        Some([0, 6]) => Ok(Body {
+            end: start + 6,
+            count: 0,
+        }),
+        Some(_) => refuse(5, start + 3),
     }
 }
 
@@ -291,10 +315,10 @@ fn in_stamp(held: &[u8]) -> bool {
     )
 }
 
-/// What is left of a descriptor from `at` to its end: nothing or a name, else
-/// 11 at `start`.
+/// What is left of a descriptor from `at`, where its body and what it holds end:
+/// nothing or a name, else 11 there.
 #[inline(always)]
-fn read_name(own: &[u8], at: usize, start: usize) -> Result<Name, Refusal> {
+fn read_name(own: &[u8], at: usize) -> Result<Name, Refusal> {
     let left = &own[at..];
     let Some((&length, behind)) = left.split_first() else {
         return Ok(Name {
@@ -304,12 +328,12 @@ fn read_name(own: &[u8], at: usize, start: usize) -> Result<Name, Refusal> {
     };
     let fill = match behind.get(usize::from(length)..) {
         Some(fill) => fill,
-        None => return refuse(11, start),
+        None => return refuse(11, at),
     };
     // With its length byte, a name of odd length needs no fill byte.
     match (length % 2, fill) {
         (1, []) | (0, [0]) => {}
-        _ => return refuse(11, start),
+        _ => return refuse(11, at),
     }
     Ok(Name {
         place: (at + 1) as u16,
@@ -331,7 +355,7 @@ fn close<V: Visitor>(
     if parent.code == 0x54 && !in_stamp(&own[start + 6..at]) {
         return refuse(10, start);
     }
-    let name = read_name(own, at, start)?;
+    let name = read_name(own, at)?;
     visitor.name(usize::from(parent.row), name.place, name.length);
     Ok(own.len())
 }

@@ -1,10 +1,11 @@
-//! Every data question compared with a slow walk, over descriptors and data by
-//! chance.
+//! The descriptor check compared with a slow reading, and every data question with a
+//! slow walk, over descriptors and data by chance.
 
 #[allow(dead_code, reason = "each test program uses a part of it")]
 mod naive;
 
-use naive::random::{Random, any_data, any_type, encode, spoil};
+use naive::descriptor::judge;
+use naive::random::{Random, any_data, any_type, encode, spoil, spoil_descriptor};
 use naive::{Refusal, Type, Walk, find, value};
 use reference::{Answer, Part, Value, check_data, check_descriptor, read_value, view};
 use reference::{from_little_endian, to_little_endian};
@@ -165,6 +166,29 @@ fn long_arrays() {
     }
     for number in [0, 20, 21, 23] {
         assert!(answers[number] > 0, "{number}: {answers:?}");
+    }
+}
+
+#[test]
+fn descriptors_with_faults() {
+    let mut random = Random(0xA076_1D64_78BD_642F);
+    let mut answers = [0; 13];
+    for _ in 0..CASES {
+        let levels = 1 + random.below(10);
+        let mut descriptor = encode(&any_type(&mut random, levels), &mut random);
+        for _ in 0..random.below(4) {
+            spoil_descriptor(&mut descriptor, &mut random);
+        }
+        let stated = match judge(&descriptor) {
+            Ok(rows) => answer(0, 0, rows),
+            Err((number, place)) => answer(number, 1, place),
+        };
+        let given = check_descriptor(&descriptor).answer;
+        assert_eq!(given, stated, "{descriptor:02X?}");
+        answers[given.number as usize] += 1;
+    }
+    for number in [0, 2, 3, 4, 5, 6, 8, 9, 10, 11, 12] {
+        assert!(answers[number] > CASES / 2000, "{number}: {answers:?}");
     }
 }
 

@@ -63,7 +63,7 @@ fn counted(count: u32, elements: &[u8]) -> Vec<u8> {
 fn the_descriptor_comes_first() {
     let long = vec![0xFF; 65537];
     all_refuse(&[], &long, answer(2, 1, 0));
-    all_refuse(&plain(0x22), &long, answer(5, 1, 0));
+    all_refuse(&plain(0x22), &long, answer(5, 1, 3));
     all_refuse(&[0; 4097], &long, answer(1, 1, 0));
     let behind = [plain(0x21), vec![0]].concat();
     all_refuse(&behind, &long, answer(12, 1, 4));

@@ -125,7 +125,7 @@ fn inputs_are_judged_one_after_the_other() {
     let named = cluster(&[identifier()]);
     let foreign = plain(0x22);
     let long = vec![2; 65537];
-    refused(&foreign, &foreign, &long, answer(5, 1, 0));
+    refused(&foreign, &foreign, &long, answer(5, 1, 3));
     refused(&[], &foreign, &long, answer(2, 1, 0));
     let behind = [number.clone(), vec![0]].concat();
     refused(&behind, &[0; 4097], &long, answer(12, 1, 4));

@@ -120,8 +120,9 @@ fn the_stamp_of_004() {
 
 #[test]
 fn a_missing_subtype_is_8() {
-    refused(&coded(&[]), 8, 0);
-    refused(&cluster(&[plain(0x03), coded(&[])]), 8, 10);
+    refused(&coded(&[]), 8, 4);
+    refused(&cluster(&[plain(0x03), coded(&[])]), 8, 14);
+    refused(&cluster(&[coded(&[]), plain(0x03)]), 8, 10);
 }
 
 #[test]
@@ -133,8 +134,11 @@ fn another_subtype_is_5() {
             let mut descriptor = coded(&[&[high, low], held].concat());
             descriptor.resize(descriptor.len().next_multiple_of(2), 0);
             descriptor[1] = descriptor.len() as u8;
-            refused(&descriptor, 5, 0);
-            refused(&cluster(&[plain(0x03), descriptor]), 5, 10);
+            refused(&descriptor, 5, 3);
+            refused(&cluster(&[plain(0x03), descriptor.clone()]), 5, 13);
+            refused(&cluster(&[descriptor.clone(), plain(0x03)]), 5, 9);
+            refused(&array(2, &descriptor), 5, 17);
+            refused(&holding(&descriptor), 5, 9);
         }
     }
 }
@@ -142,13 +146,13 @@ fn another_subtype_is_5() {
 #[test]
 fn numbers_6_and_7_come_before_another_subtype() {
     let other = coded(&[0, 3]);
-    refused(&nested(other.clone(), 7), 5, 42);
+    refused(&nested(other.clone(), 7), 5, 42 + 3);
     refused(&nested(other.clone(), 8), 6, 48);
     let wide = |numbers, last: &[u8]| {
         let members = [vec![plain(0x05); numbers], vec![last.to_vec()]].concat();
         cluster(&members)
     };
-    refused(&wide(254, &other), 5, 6 + 4 * 254);
+    refused(&wide(254, &other), 5, 6 + 4 * 254 + 3);
     refused(&wide(255, &other), 7, 6 + 4 * 255);
     refused(&wide(255, &coded(&[])), 7, 6 + 4 * 255);
 }
@@ -172,20 +176,33 @@ fn what_is_held_is_judged_by_itself_first() {
     refused(&at(6, 0x80), 3, 6);
     refused(&at(7, 0x18), 4, 6);
     refused(&at(7, 0x15), 4, 6);
-    refused(&at(9, 0x51), 5, 6);
-    refused(&at(9, 0x40), 10, 6);
-    refused(&at(11, 0), 9, 6);
+    refused(&at(9, 0x51), 5, 9);
+    refused(&at(9, 0x40), 10, 12);
+    refused(&at(11, 0), 9, 10);
     refused(&at(11, 5), 2, 28);
-    refused(&at(11, 3), 11, 6);
-    refused(&at(13, 6), 11, 12);
+    refused(&at(11, 3), 11, 24);
+    refused(&at(13, 6), 11, 16);
     refused(&at(12, 0x80), 3, 12);
-    refused(&at(15, 0x0F), 5, 12);
-    refused(&at(27, 0x30), 8, 24);
-    refused(&at(27, 0x54), 8, 24);
+    refused(&at(15, 0x0F), 5, 15);
+    refused(&at(15, 0x30), 8, 16);
+    refused(&at(27, 0x30), 8, 28);
+    refused(&at(27, 0x54), 8, 28);
     // Even where something before it is wrong for a time stamp alone.
     let mut descriptor = OLD_STAMP;
     descriptor[27] = 0x40;
-    refused(&descriptor, 8, 24);
+    refused(&descriptor, 8, 28);
+}
+
+#[test]
+fn a_wrong_word_inside_has_its_own_place() {
+    let string = [0, 8, 0, 0x30, 0xFF, 0xFF, 0xFF, 0xFE];
+    refused(&holding(&string), 10, 10);
+    refused(&holding(&array(1, &string)), 10, 20);
+    refused(&holding(&array(2, &array(1, &plain(0x03)))), 10, 23);
+    refused(&holding(&[0, 8, 0, 0x15, 0, 1, 0, 1]), 10, 13);
+    refused(&holding(&[0, 10, 0, 0x19, 0, 1, 0, 9, 0, 1]), 10, 12);
+    // The stamp's own 10 stays at its start.
+    refused(&holding(&text()), 10, 0);
 }
 
 #[test]
@@ -244,12 +261,12 @@ fn a_stamp_in_a_stamp_is_10() {
 #[test]
 fn what_is_held_comes_before_11() {
     for behind in [&[9, 9][..], &[0, 1], &[1, 65, 0, 0], &[0, 4, 0, 3]] {
-        refused(&longer(STAMP.to_vec(), behind), 11, 0);
+        refused(&longer(STAMP.to_vec(), behind), 11, 28);
         refused(&longer(OLD_STAMP.to_vec(), behind), 10, 0);
         let member = longer(STAMP.to_vec(), behind);
-        refused(&cluster(&[plain(0x05), member]), 11, 10);
+        refused(&cluster(&[plain(0x05), member, plain(0x05)]), 11, 38);
     }
-    refused(&longer(STAMP.to_vec(), &halves()), 11, 0);
+    refused(&longer(STAMP.to_vec(), &halves()), 11, 28);
     // Bytes behind the top come last.
     refused(&[&STAMP[..], &[0, 0]].concat(), 12, 28);
     refused(&[&OLD_STAMP[..], &[0, 0]].concat(), 10, 0);

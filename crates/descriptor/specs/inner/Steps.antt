@@ -49,9 +49,9 @@ unfoldable pub entryFits : List ℕ → Bool → ℕ → Bool
 entryFits s pairs at = cond pairs (baseFits s at) (wordFits s at)
 
 -- the part that unit pairs and dimension words share: a count, that many words after it, and the test of each
-unfoldable pub wordsAt : List ℕ → Bool → ℕ → ℕ → ℕ → ℕ → Outcome ℕ
-wordsAt s pairs p at stop most =
-    andThen (runAt s p at stop most) (λ last k. andThen (judged (entryFits s pairs) p k (at + 2)) (λ _ _. read last k))
+unfoldable pub wordsAt : List ℕ → Bool → ℕ → ℕ → ℕ → Outcome ℕ
+wordsAt s pairs at stop most =
+    andThen (runAt s at stop most) (λ last k. andThen (judged (entryFits s pairs) k (at + 2)) (λ _ _. read last k))
 
 abbrev pub refusedStep : ℕ → ℕ → Step
 refusedStep number place = record { ok = false; number = number; place = place; next = 0; value = 0; children = 0 }

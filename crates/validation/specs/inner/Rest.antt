@@ -37,4 +37,4 @@ pub record Lies (s : List ℕ) (p : ℕ) : Type 0 where
 
 -- what is left of the descriptor at p, of the kind k, whose children stand from `inside` up to `at`
 unfoldable pub restAt : Kind → List ℕ → ℕ → ℕ → ℕ → ℕ → Outcome Name
-restAt k s p inside stop at = require (not (isStamp k) || stampAt s inside) 10 p (nameAt s p stop at)
+restAt k s p inside stop at = require (not (isStamp k) || stampAt s inside) 10 p (nameAt s stop at)

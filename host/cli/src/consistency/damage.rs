@@ -6,11 +6,11 @@ use crate::tokens::{Order, Part};
 use super::grow::Random;
 
 /// Bytes to be changed: how far behind a descriptor's start each stands, and to what;
-/// and the number that refuses it then.
-type Change = (&'static [(usize, u8)], u32);
+/// the number that refuses it then, and how far behind the start its place is.
+type Change = (&'static [(usize, u8)], u32, usize);
 
-/// Copies of a descriptor that are refused in this row, with the numbers.
-pub fn of_row(types: &Descriptor, row: usize) -> Vec<(Vec<u8>, u32)> {
+/// Copies of a descriptor that are refused in this row, with the numbers and places.
+pub fn of_row(types: &Descriptor, row: usize) -> Vec<(Vec<u8>, u32, usize)> {
     let of = &types.rows[row];
     let start = usize::from(of.start);
     let changed = |changes: &[(usize, u8)]| {
@@ -23,18 +23,18 @@ pub fn of_row(types: &Descriptor, row: usize) -> Vec<(Vec<u8>, u32)> {
     let high = types.bytes[start];
     let low = types.bytes[start + 1];
     let mut damaged = vec![
-        (changed(&[(0, high | 0x80)]), 3),
-        (changed(&[(1, low | 1)]), 4),
-        (changed(&[(0, 0), (1, 2)]), 4),
-        (changed(&[(0, 0x7F), (1, 0xFE)]), 4),
-        (changed(&[(3, 0x32)]), 5),
+        (changed(&[(0, high | 0x80)]), 3, start),
+        (changed(&[(1, low | 1)]), 4, start),
+        (changed(&[(0, 0), (1, 2)]), 4, start),
+        (changed(&[(0, 0x7F), (1, 0xFE)]), 4, start),
+        (changed(&[(3, 0x32)]), 5, start + 3),
     ];
-    for (changes, number) in body_changes(of.code) {
-        damaged.push((changed(changes), *number));
+    for (changes, number, behind) in body_changes(of.code) {
+        damaged.push((changed(changes), *number, start + behind));
     }
     if types.name(row).is_some() {
-        let length = usize::from(of.name_place) - 1 - start;
-        damaged.push((changed(&[(length, 0xFF)]), 11));
+        let rest = usize::from(of.name_place) - 1;
+        damaged.push((changed(&[(rest - start, 0xFF)]), 11, rest));
     }
     damaged
 }
@@ -42,16 +42,30 @@ pub fn of_row(types: &Descriptor, row: usize) -> Vec<(Vec<u8>, u32)> {
 /// What is changed behind the header of a descriptor of this code.
 fn body_changes(code: u16) -> &'static [Change] {
     match code {
-        0x15..=0x17 | 0x50 => &[(&[(4, 0), (5, 0)], 9)],
-        0x19..=0x1E => &[(&[(4, 0), (5, 10)], 9), (&[(7, 9)], 10)],
-        0x30 => &[(&[(4, 0x7F)], 10)],
-        0x40 => &[(&[(4, 0), (5, 5)], 9), (&[(7, 0)], 10)],
+        0x15..=0x17 => &[
+            (&[(0, 0), (1, 4)], 8, 4),
+            (&[(0, 0), (1, 6)], 8, 6),
+            (&[(4, 0), (5, 0)], 9, 4),
+        ],
+        0x19..=0x1E => &[
+            (&[(0, 0), (1, 8)], 8, 8),
+            (&[(4, 0), (5, 10)], 9, 4),
+            (&[(7, 9)], 10, 6),
+        ],
+        0x30 => &[(&[(0, 0), (1, 6)], 8, 6), (&[(7, 0x7F)], 10, 4)],
+        0x40 => &[
+            (&[(0, 0), (1, 8)], 8, 8),
+            (&[(4, 0), (5, 5)], 9, 4),
+            (&[(7, 0)], 10, 6),
+        ],
+        0x50 => &[(&[(0, 0), (1, 4)], 8, 4), (&[(4, 0), (5, 0)], 9, 4)],
         // The subtype; other integers inside, or what is no integer.
         0x54 => &[
-            (&[(5, 7)], 5),
-            (&[(15, 7)], 10),
-            (&[(27, 3)], 10),
-            (&[(19, 0x0A)], 10),
+            (&[(0, 0), (1, 4)], 8, 4),
+            (&[(5, 7)], 5, 3),
+            (&[(15, 7)], 10, 0),
+            (&[(27, 3)], 10, 0),
+            (&[(19, 0x0A)], 10, 0),
         ],
         _ => &[],
     }

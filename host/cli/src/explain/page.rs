@@ -2,7 +2,7 @@
 //! what they are, and marks that go from one to the other.
 
 use super::Section;
-use crate::layout::Field;
+use crate::layout::{Field, Sort};
 
 /// How many bytes stand in a row.
 const BYTES: usize = 8;
@@ -81,8 +81,11 @@ fn bytes(section: &Section, number: usize) -> String {
 }
 
 fn fields(section: &Section, number: usize) -> String {
+    // Where the place is behind the last byte, no field has it: what is missing there is marked.
+    let behind = section.place() == Some(section.file.bytes.len());
     let lines = section.fields.iter().enumerate().map(|(index, field)| {
-        let marked = section.place().is_some_and(|place| field.bytes.contains(&place));
+        let there = section.place().is_some_and(|place| field.bytes.contains(&place));
+        let marked = there || behind && field.sort == Sort::Fault;
         format!(
             "<li class=\"{}\" data-f=\"{}\" style=\"--depth:{}\" tabindex=\"0\"><span class=\"at\">{}</span><span class=\"says\">{}</span></li>\n",
             class(field, marked),

@@ -130,12 +130,12 @@ fn a_refused_descriptor_is_read_up_to_its_place() {
     3  0003  40                         code 40, array
     4  0004  00 01                      1 dimension
     6  0006  FF FF FF FF                dimension 0: any size
-   10  000A [00]0E                        element: size 14
+   10  000A  00 0E                        element: size 14
+   12  000C  00                           reserved
+   13  000D [40]                          code 40, array in an array
              ^                          refused with 10: a length or dimension is not FFFFFFFF, \
          a unit's base is over 8, an enumeration's fill byte is not zero, an array stands \
          directly in an array, or a time stamp holds anything but its cluster of four integers
-   12  000C  00                           reserved
-   13  000D  40                           code 40, array
    14  000E  00 01 FF FF FF FF 00 04      not read
    22  0016  00 0A
 "
@@ -278,7 +278,9 @@ fn a_code_that_is_not_read_is_told() {
     folder.put("types", &cluster(&[descriptor(0x37, &[])]));
     let ran = folder.run(&["explain", "types"]);
     let tail = "\
-    9  0009  37                           code 37, no type that is read here
+    9  0009 [37]                          code 37, no type that is read here
+             ^                          refused with 5: the code is none that is read here, \
+         or a time stamp's subtype is not 6
 ";
     assert!(ran.text().ends_with(tail), "{}", ran.text());
     assert_eq!(ran.status, 1);

@@ -79,7 +79,7 @@ fn the_place_of_a_refusal_is_marked() {
     folder.put("cut", &hex("01"));
     let cases: [(&[&str], &str); 3] = [
         (&["bath.hex", "data-bath-note.hex"], "29"),
-        (&["array-in-array.hex"], "10"),
+        (&["array-in-array.hex"], "13"),
         (&["bath.hex", "cut"], "1"),
     ];
     for (files, place) in cases {
@@ -132,4 +132,16 @@ fn a_refused_page_is_written_with_status_1() {
     let ran = folder.run(&["explain", "types", "--html", "-o", "page.html"]);
     assert_eq!((ran.status, ran.text()), (1, "page.html: written\n"));
     assert_eq!(folder.read("page.html"), shown.out);
+}
+
+#[test]
+fn what_is_missing_at_the_end_is_marked() {
+    let folder = Folder::new("page-end");
+    folder.put("short.hex", b"000A 0050 0001 0004 0030");
+    let shown = folder.run(&["explain", "short.hex", "--html"]);
+    let page = shown.text();
+    assert!(page.contains("<b class=\"end place\" data-at=\"10\">end</b>"));
+    let marked = inside(&page, "<li class=\"fault place\"", "</li>");
+    assert_eq!(marked.len(), 1);
+    assert!(marked[0].contains("length: 4 bytes needed, 0 left"));
 }

@@ -2,6 +2,7 @@
 
 mod data;
 mod descriptors;
+mod places;
 mod record;
 mod stamps;
 
@@ -122,6 +123,25 @@ fn meaning(number: u32) -> &'static str {
         44 => "the writer's member of this name is of another type",
         _ => "the output is too small",
     }
+}
+
+/// Eight bytes on either side of the place.
+fn around(bytes: &[u8], place: usize) -> String {
+    let start = place.saturating_sub(8);
+    let end = bytes.len().min(place + 9);
+    let shown: Vec<String> = (start..end)
+        .map(|at| match at == place {
+            true => format!("[{:02X}]", bytes[at]),
+            false => format!("{:02X}", bytes[at]),
+        })
+        .collect();
+    let before = if start > 0 { ".. " } else { "" };
+    let behind = match place == bytes.len() {
+        true => " [end]",
+        false if end < bytes.len() => " ..",
+        false => "",
+    };
+    format!("{before}{}{behind}", shown.join(" "))
 }
 
 /// A request about data that is refused.

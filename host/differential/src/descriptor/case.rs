@@ -4,6 +4,7 @@
 use reference::Answer;
 
 use super::damage::damage;
+use super::fault;
 use super::limits::Limit;
 use crate::grow;
 use crate::kind::Kind;
@@ -61,7 +62,7 @@ impl Case {
 
     /// A case by chance.
     pub fn any(random: &mut Random) -> Case {
-        let case = match random.below(40) {
+        let case = match random.below(44) {
             0..13 => {
                 let tree = grow::tame(random);
                 tree_case(random, Kind::Tree, &tree)
@@ -81,6 +82,7 @@ impl Case {
             }
             30..34 => wild_case(random),
             34..38 => bare(Kind::Headed, headed(random)),
+            38..42 => pointed_case(random),
             _ => bare(Kind::Random, random_bytes(random)),
         };
         case.with_strangers(random)
@@ -175,6 +177,18 @@ fn damaged_case(random: &mut Random, tree: &Tree) -> Case {
     case.beyond = damaged.beyond;
     case.partners.push(unknown(damage(random, &encoded).bytes));
     case.partners.push(unknown(encoded.bytes));
+    case
+}
+
+/// A fault whose number and place are known.
+fn pointed_case(random: &mut Random) -> Case {
+    let fault = fault::any(random);
+    let mut case = bare(Kind::Pointed, fault.bytes);
+    case.stated.answer = Some(Answer {
+        number: fault.number,
+        input: 1,
+        place: fault.place as u32,
+    });
     case
 }
 

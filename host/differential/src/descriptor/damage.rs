@@ -65,7 +65,7 @@ fn cut(random: &mut Random, damaged: &mut Damaged) {
 }
 
 /// Codes next to those that are carried, and the last.
-const FOREIGN: [u8; 16] = [
+pub const FOREIGN: [u8; 16] = [
     0x00, 0x0F, 0x14, 0x18, 0x1F, 0x20, 0x22, 0x2F, 0x31, 0x3F, 0x41, 0x4F, 0x51, 0x53, 0x55, 0xFF,
 ];
 
@@ -77,7 +77,7 @@ const SIZES: [u16; 10] = [0, 1, 2, 3, 5, 0x7FFE, 0x7FFF, 0x8000, 0x8001, 0xFFFF]
 
 /// Counts at and past a code's limits, and such whose low bytes are within; a time
 /// stamp has its subtype there.
-fn counts(code: u16) -> &'static [u16] {
+pub fn counts(code: u16) -> &'static [u16] {
     match code {
         0x19..=0x1E => &[0, 1, 9, 10, 11, 256, 265, 0xFFFF],
         0x40 => &[0, 1, 4, 5, 6, 256, 260, 0xFFFF],

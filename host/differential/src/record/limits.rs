@@ -218,7 +218,7 @@ fn order(limits: &mut Limits) {
 /// The writer before the reader, and the reader before the data.
 fn inputs(limits: &mut Limits) {
     let no_members = |input| {
-        let (number, place) = (9, 0);
+        let (number, place) = (9, 4);
         Err(Answer {
             number,
             input,

@@ -8,7 +8,7 @@ use super::met::{Coded, Deep};
 use crate::entry::Entry;
 use crate::kind::Kind;
 
-fn word(bytes: &[u8], place: usize) -> usize {
+pub fn word(bytes: &[u8], place: usize) -> usize {
     usize::from(bytes[place]) << 8 | usize::from(bytes[place + 1])
 }
 
@@ -86,27 +86,34 @@ impl Tally {
 
     /// A descriptor refused with 2 to 11.
     fn refused(&mut self, bytes: &[u8], number: u32, place: usize) {
-        let Some(spot) = Spot::of(bytes, place) else {
-            return;
+        // With 8 the place is the descriptor's end, which may be another's start.
+        let spot = match number {
+            8 => Spot::of(bytes, place - 1),
+            _ => Spot::of(bytes, place),
         };
         self.deep(Deep::Refused(number), spot.depth);
+        let start = spot.start;
         match number {
-            2 => self.lines.count(Of::Left, spot.end - place),
-            3 => self.lines.count(Of::HighSize, word(bytes, place)),
-            4 => self.lines.count(Of::WrongSize, word(bytes, place)),
-            5 if bytes[place + 3] == 0x54 => self.lines.count(Of::Subtype, word(bytes, place + 4)),
-            5 => self.lines.count(Of::Foreign, usize::from(bytes[place + 3])),
-            8..=11 => self.refused_body(bytes, number, place, spot.in_array),
+            2 => self.lines.count(Of::Left, spot.end - start),
+            3 => self.lines.count(Of::HighSize, word(bytes, start)),
+            4 => self.lines.count(Of::WrongSize, word(bytes, start)),
+            5 if bytes[start + 3] == 0x54 => self.lines.count(Of::Subtype, word(bytes, start + 4)),
+            5 => self.lines.count(Of::Foreign, usize::from(bytes[start + 3])),
+            8..=11 => self.refused_body(bytes, number, spot),
             _ => {}
+        }
+        if matches!(number, 5 | 8..=11) {
+            self.place(bytes, number, place, spot);
         }
     }
 
-    fn refused_body(&mut self, bytes: &[u8], number: u32, place: usize, in_array: bool) {
-        let (column, wrong_count) = match bytes[place + 3] {
+    fn refused_body(&mut self, bytes: &[u8], number: u32, spot: Spot) {
+        let start = spot.start;
+        let (column, wrong_count) = match bytes[start + 3] {
             0x15..=0x17 => (1, Some(Of::WrongItems)),
             0x19..=0x1E => (2, Some(Of::WrongPairs)),
             0x30 => (3, None),
-            0x40 if in_array => (7, None),
+            0x40 if spot.parent == 0x40 => (7, None),
             0x40 => (4, Some(Of::WrongDimensions)),
             0x50 => (5, Some(Of::WrongMembers)),
             0x54 => (6, None),
@@ -114,9 +121,9 @@ impl Tally {
         };
         self.bodies.count(number as usize - 8, column);
         match (number, wrong_count) {
-            (9, Some(of)) => self.lines.count(of, word(bytes, place + 4)),
+            (9, Some(of)) => self.lines.count(of, word(bytes, start + 4)),
             (10, Some(Of::WrongItems)) => {
-                self.lines.count(Of::WrongFillAfter, word(bytes, place + 4));
+                self.lines.count(Of::WrongFillAfter, word(bytes, start + 4));
             }
             _ => {}
         }
@@ -134,51 +141,61 @@ fn standing(depth: usize, parent: u16) -> Coded {
 
 /// Where a descriptor stands.
 #[derive(Clone, Copy)]
-struct Spot {
-    start: usize,
+pub struct Spot {
+    pub start: usize,
     depth: usize,
-    /// Where its parent ends.
-    end: usize,
-    in_array: bool,
+    /// Where its parent ends, and the parent's code, or 0 for the top.
+    pub end: usize,
+    pub parent: u8,
 }
 
 impl Spot {
-    /// The descriptor that starts here, where all before it are in order.
-    fn of(bytes: &[u8], place: usize) -> Option<Spot> {
+    /// The descriptor that starts here, or the innermost that has this byte; all
+    /// before it are in order.
+    fn of(bytes: &[u8], byte: usize) -> Spot {
         let top = Spot {
             start: 0,
             depth: 1,
             end: bytes.len(),
-            in_array: false,
+            parent: 0,
         };
-        top.find(bytes, place)
+        top.find(bytes, byte)
     }
 
-    /// This descriptor or the one inside it that starts at the place.
-    fn find(self, bytes: &[u8], place: usize) -> Option<Spot> {
-        if self.start == place {
-            return Some(self);
-        }
+    /// This descriptor or the one inside it.
+    fn find(self, bytes: &[u8], byte: usize) -> Spot {
         let inside = self.start + 6;
+        if byte < inside {
+            return self;
+        }
         let count = || word(bytes, self.start + 4);
-        let (first, children) = match bytes[self.start + 3] {
+        let code = bytes[self.start + 3];
+        let (first, children) = match code {
             0x40 => (inside + 4 * count(), 1),
             0x50 => (inside, count()),
             0x54 => (inside, 1),
-            _ => return None,
+            _ => return self,
         };
         let mut child = Spot {
             start: first,
             depth: self.depth + 1,
             end: self.start + word(bytes, self.start),
-            in_array: bytes[self.start + 3] == 0x40,
+            parent: code,
         };
         for _ in 0..children {
-            if let Some(found) = child.find(bytes, place) {
-                return Some(found);
+            if byte < child.start {
+                break;
             }
-            child.start += word(bytes, child.start);
+            // Its size may be missing or wrong.
+            if byte == child.start {
+                return child;
+            }
+            let end = child.start + word(bytes, child.start);
+            if byte < end {
+                return child.find(bytes, byte);
+            }
+            child.start = end;
         }
-        None
+        self
     }
 }

@@ -30,6 +30,10 @@ pub enum Of {
     WrongPairs,
     WrongDimensions,
     WrongMembers,
+    FirstBase,
+    WrongBases,
+    FirstWord,
+    WrongWords,
     Behind,
     DataLength,
     DataTooLong,
@@ -49,7 +53,7 @@ pub enum Of {
 type Line = (Of, &'static str, &'static [u32]);
 
 /// Every number, in the order of the enum.
-pub const LINES: [Line; 40] = [
+pub const LINES: [Line; 44] = [
     (Of::Length, "bytes", &[4, 6, 4090, 4092, 4094, 4096]),
     (Of::TooLong, "bytes refused", &[4097, 4098, 4099]),
     (Of::Rows, "rows", &[1, 2, 3, 254, 255, 256]),
@@ -111,6 +115,10 @@ pub const LINES: [Line; 40] = [
         &[0, 5, 6, 256, 260, 0xFFFF],
     ),
     (Of::WrongMembers, "members, with 9", &[0]),
+    (Of::FirstBase, "pair, with 10", &[0, 1, 2, 3, 4, 5, 6, 7, 8]),
+    (Of::WrongBases, "wrong pairs, with 10", &[1, 2, 3, 4, 5]),
+    (Of::FirstWord, "dimension, with 10", &[0, 1, 2, 3]),
+    (Of::WrongWords, "wrong dimensions, with 10", &[1, 2, 3, 4]),
     (Of::Behind, "bytes behind, with 12", &[1, 2, 3, 4]),
     (
         Of::DataLength,

@@ -73,7 +73,7 @@ pub const CODES: [u8; 28] = [
     0x17, 0x19, 0x1A, 0x1B, 0x1C, 0x1D, 0x1E, 0x21, 0x30, 0x40, 0x50, 0x54,
 ];
 
-fn must(met: bool) -> Cell {
+pub fn must(met: bool) -> Cell {
     match met {
         true => Cell::Must,
         false => Cell::Never,

@@ -205,6 +205,21 @@ fn word(number: usize, random: &mut Random, data: &mut Vec<u8>) {
     data.extend(number.to_be_bytes());
 }
 
+/// A byte of a descriptor changed, mostly to one that has a meaning, or its end cut
+/// off or lengthened.
+pub fn spoil_descriptor(descriptor: &mut Vec<u8>, random: &mut Random) {
+    let meant = [
+        0, 1, 2, 4, 5, 6, 8, 9, 10, 0x15, 0x19, 0x30, 0x40, 0x50, 0x54, 0xFE,
+    ];
+    let place = random.below(descriptor.len());
+    match random.below(12) {
+        0 => descriptor.truncate(place.max(1)),
+        1 => descriptor.push(random.byte()),
+        2 | 3 => descriptor[place] = random.byte(),
+        _ => descriptor[place] = meant[random.below(meant.len())],
+    }
+}
+
 /// Cuts, lengthens or changes data by chance.
 pub fn spoil(data: &mut Vec<u8>, random: &mut Random) {
     match random.below(10) {

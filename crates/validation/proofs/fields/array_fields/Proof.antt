@@ -19,7 +19,7 @@ judged-words-requires c κs = search needs
 
 returns : tie.Need-returns
 returns c = let words = c .before .before .judged-words in
-    stopped countOf childCount (wordsAt (now (c .before .before .before .before .args .d)) false (c .before .before .before .before .args .p) (c .before .before .before .before .args .at) (c .before .before .before .before .args .stop) dimensionLimit) _ (words .result) (lost (λ k. k) (λ _. 0) _ (words .result) (words .ensures) (not-true _ (c .if1 .taken)))
+    stopped countOf childCount (wordsAt (now (c .before .before .before .before .args .d)) false (c .before .before .before .before .args .at) (c .before .before .before .before .args .stop) dimensionLimit) _ (words .result) (lost (λ k. k) (λ _. 0) _ (words .result) (words .ensures) (not-true _ (c .if1 .taken)))
     ∙ ap fieldsStep (sym (array-words (now (c .before .before .before .before .args .d)) (c .before .before .before .before .args .p) (c .before .before .before .before .args .at) (c .before .before .before .before .args .stop)))
 
 accept-requires : tie.Need-accept-requires
@@ -29,7 +29,7 @@ returns-2 : tie.Need-returns-2
 unfolding countOf childCount
 returns-2 c = let words = c .before .before .before .judged-words in
     c .accept .ensures
-    ∙ sym (ap fieldsStep (array-words (now (c .before .before .before .before .before .args .d)) (c .before .before .before .before .before .args .p) (c .before .before .before .before .before .args .at) (c .before .before .before .before .before .args .stop) ∙ ap (λ o. andThen o (λ last k. read last (dimensions k))) (value-got (wordsAt (now (c .before .before .before .before .before .args .d)) false (c .before .before .before .before .before .args .p) (c .before .before .before .before .before .args .at) (c .before .before .before .before .before .args .stop) dimensionLimit) (words .result) (words .ensures) (not-false _ (c .before .if1 .left)))))
+    ∙ sym (ap fieldsStep (array-words (now (c .before .before .before .before .before .args .d)) (c .before .before .before .before .before .args .p) (c .before .before .before .before .before .args .at) (c .before .before .before .before .before .args .stop) ∙ ap (λ o. andThen o (λ last k. read last (dimensions k))) (value-got (wordsAt (now (c .before .before .before .before .before .args .d)) false (c .before .before .before .before .before .args .at) (c .before .before .before .before .before .args .stop) dimensionLimit) (words .result) (words .ensures) (not-false _ (c .before .if1 .left)))))
 
 pub array-fields-spec : {M : Type 1} → statement M
 array-fields-spec =

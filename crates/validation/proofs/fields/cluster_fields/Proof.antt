@@ -16,7 +16,7 @@ count-word-requires c κs = search needs
 
 returns : tie.Need-returns
 returns c = let count = c .before .before .count-word in
-    let l = lost (λ k. k) (λ _. 0) (countAt (now (c .before .before .before .before .args .d)) (c .before .before .before .before .args .p) (c .before .before .before .before .args .at) (c .before .before .before .before .args .stop) countLimit) (count .result) (count .ensures) (not-true _ (c .if1 .taken)) in
+    let l = lost (λ k. k) (λ _. 0) (countAt (now (c .before .before .before .before .args .d)) (c .before .before .before .before .args .at) (c .before .before .before .before .args .stop) countLimit) (count .result) (count .ensures) (not-true _ (c .if1 .taken)) in
     l .same ∙ sym (cluster-lost (now (c .before .before .before .before .args .d)) (c .before .before .before .before .args .p) (c .before .before .before .before .args .at) (c .before .before .before .before .args .stop) _ _ (l .eq))
 
 accept-requires : tie.Need-accept-requires
@@ -25,7 +25,7 @@ accept-requires c κs = search needs
 returns-2 : tie.Need-returns-2
 returns-2 c = let count = c .before .before .before .count-word in
     c .accept .ensures
-    ∙ sym (cluster-read (now (c .before .before .before .before .before .args .d)) (c .before .before .before .before .before .args .p) (c .before .before .before .before .before .args .at) (c .before .before .before .before .before .args .stop) (count .result .next) (count .result .value) (value-got (countAt (now (c .before .before .before .before .before .args .d)) (c .before .before .before .before .before .args .p) (c .before .before .before .before .before .args .at) (c .before .before .before .before .before .args .stop) countLimit) (count .result) (count .ensures) (not-false _ (c .before .if1 .left))))
+    ∙ sym (cluster-read (now (c .before .before .before .before .before .args .d)) (c .before .before .before .before .before .args .p) (c .before .before .before .before .before .args .at) (c .before .before .before .before .before .args .stop) (count .result .next) (count .result .value) (value-got (countAt (now (c .before .before .before .before .before .args .d)) (c .before .before .before .before .before .args .at) (c .before .before .before .before .before .args .stop) countLimit) (count .result) (count .ensures) (not-false _ (c .before .if1 .left))))
 
 pub cluster-fields-spec : {M : Type 1} → statement M
 cluster-fields-spec =

@@ -26,7 +26,7 @@ returns c = let s = now (c .before .before .before .before .args .d) in
     let body = c .before .before .before .before .args .body in
     let stop = c .before .before .before .before .args .stop in
     let count = c .before .before .count-word in
-    let l = lost (λ k. k) (λ _. 0) (countAt s p body stop countLimit) (count .result) (count .ensures) (not-true _ (c .if1 .taken)) in
+    let l = lost (λ k. k) (λ _. 0) (countAt s body stop countLimit) (count .result) (count .ensures) (not-true _ (c .if1 .taken)) in
     l .same ∙ sym (enumeration-lost s p body stop _ _ (l .eq))
 
 packed-strings-requires : tie.Need-packed-strings-requires
@@ -36,7 +36,7 @@ packed-strings-requires c κs = let s = now (c .before .before .before .before .
     let stop = c .before .before .before .before .args .stop in
     let count = c .before .before .count-word in
     let ok = not-false _ (c .if1 .left) in
-    record { from = count-range s p body stop countLimit (count .result) (count .ensures) ok .within; inside = c .before .before .before .before .pre .0 .inside; small = c .before .before .before .before .pre .0 .small }
+    record { from = count-range s body stop countLimit (count .result) (count .ensures) ok .within; inside = c .before .before .before .before .pre .0 .inside; small = c .before .before .before .before .pre .0 .small }
 
 returns-2 : tie.Need-returns-2
 returns-2 c = let s = now (c .before .before .before .before .before .before .before .args .d) in
@@ -46,8 +46,8 @@ returns-2 c = let s = now (c .before .before .before .before .before .before .be
     let count = c .before .before .before .before .before .count-word in
     let ok = not-false _ (c .before .before .before .if1 .left) in
     let strings = c .before .before .packed-strings in
-    let l = lost length (λ _. 0) (itemsAt s p stop (count .result .value) (count .result .next)) (strings .result) (strings .ensures) (not-true _ (c .if2 .taken)) in
-    l .same ∙ sym (items-lost s p body stop (count .result .next) (count .result .value) _ _ (value-got (countAt s p body stop countLimit) (count .result) (count .ensures) ok) (l .eq))
+    let l = lost length (λ _. 0) (itemsAt s stop (count .result .value) (count .result .next)) (strings .result) (strings .ensures) (not-true _ (c .if2 .taken)) in
+    l .same ∙ sym (items-lost s p body stop (count .result .next) (count .result .value) _ _ (value-got (countAt s body stop countLimit) (count .result) (count .ensures) ok) (l .eq))
 
 sub-if3 : tie.Need-sub-if3
 sub-if3 c = let s = now (c .before .before .before .before .before .before .before .args .d) in
@@ -57,9 +57,9 @@ sub-if3 c = let s = now (c .before .before .before .before .before .before .befo
     let count = c .before .before .before .before .before .count-word in
     let ok = not-false _ (c .before .before .before .if1 .left) in
     let strings = c .before .before .packed-strings in
-    let items = got length (λ _. 0) (itemsAt s p stop (count .result .value) (count .result .next)) (strings .result) (strings .ensures) (not-false _ (c .if2 .left)) in
-    let e = holds-read (items .eq) (items-end s p stop (c .before .before .before .before .before .before .before .pre .0 .inside) (count .result .value) (count .result .next) (count-range s p body stop countLimit (count .result) (count .ensures) ok .within)) .0 in
-    omega (arith, e .at, count-range s p body stop countLimit (count .result) (count .ensures) ok .next, c .before .before .before .before .before .before .before .pre .1)
+    let items = got length (λ _. 0) (itemsAt s stop (count .result .value) (count .result .next)) (strings .result) (strings .ensures) (not-false _ (c .if2 .left)) in
+    let e = holds-read (items .eq) (items-end s p stop (c .before .before .before .before .before .before .before .pre .0 .inside) (count .result .value) (count .result .next) (count-range s body stop countLimit (count .result) (count .ensures) ok .within)) .0 in
+    omega (arith, e .at, count-range s body stop countLimit (count .result) (count .ensures) ok .next, c .before .before .before .before .before .before .before .pre .1)
 
 accept-requires : tie.Need-accept-requires
 accept-requires c κs = search needs
@@ -72,8 +72,8 @@ returns-3 c = let s = now (c .before .before .before .before .before .before .be
     let count = c .before .before .before .before .before .before .before .count-word in
     let ok = not-false _ (c .before .before .before .before .before .if1 .left) in
     let strings = c .before .before .before .before .packed-strings in
-    let items = got length (λ _. 0) (itemsAt s p stop (count .result .value) (count .result .next)) (strings .result) (strings .ensures) (not-false _ (c .before .before .if2 .left)) in
-    c .accept .ensures ∙ ap (λ k. readStep (strings .result .next) k 0) (items .counts) ∙ sym (items-even s p body stop (count .result .next) (count .result .value) (value-got (countAt s p body stop countLimit) (count .result) (count .ensures) ok) (strings .result .next) (items .value) (items .eq) (c .before .if3 .taken))
+    let items = got length (λ _. 0) (itemsAt s stop (count .result .value) (count .result .next)) (strings .result) (strings .ensures) (not-false _ (c .before .before .if2 .left)) in
+    c .accept .ensures ∙ ap (λ k. readStep (strings .result .next) k 0) (items .counts) ∙ sym (items-even s p body stop (count .result .next) (count .result .value) (value-got (countAt s body stop countLimit) (count .result) (count .ensures) ok) (strings .result .next) (items .value) (items .eq) (c .before .if3 .taken))
 
 overrun-requires : tie.Need-overrun-requires
 overrun-requires c κs = search needs
@@ -86,8 +86,8 @@ returns-4 c = let s = now (c .before .before .before .before .before .before .be
     let count = c .before .before .before .before .before .before .before .before .count-word in
     let ok = not-false _ (c .before .before .before .before .before .before .if1 .left) in
     let strings = c .before .before .before .before .before .packed-strings in
-    let items = got length (λ _. 0) (itemsAt s p stop (count .result .value) (count .result .next)) (strings .result) (strings .ensures) (not-false _ (c .before .before .before .if2 .left)) in
-    c .overrun .ensures ∙ sym (fill-missing s p body stop (count .result .next) (count .result .value) (value-got (countAt s p body stop countLimit) (count .result) (count .ensures) ok) (strings .result .next) (items .value) (items .eq) (c .before .before .if3 .left) (c .before .if4 .taken))
+    let items = got length (λ _. 0) (itemsAt s stop (count .result .value) (count .result .next)) (strings .result) (strings .ensures) (not-false _ (c .before .before .before .if2 .left)) in
+    c .overrun .ensures ∙ sym (fill-missing s p body stop (count .result .next) (count .result .value) (value-got (countAt s body stop countLimit) (count .result) (count .ensures) ok) (strings .result .next) (items .value) (items .eq) (c .before .before .if3 .left) (c .before .if4 .taken))
 
 shared-slice-read-if5 : tie.Need-shared-slice-read-if5
 shared-slice-read-if5 c = omega (arith, c .before .if4 .left, c .before .before .before .before .before .before .before .before .before .before .pre .0 .inside)
@@ -103,8 +103,8 @@ returns-5 c = let s = now (c .before .before .before .before .before .before .be
     let count = c .before .before .before .before .before .before .before .before .before .before .count-word in
     let ok = not-false _ (c .before .before .before .before .before .before .before .before .if1 .left) in
     let strings = c .before .before .before .before .before .before .before .packed-strings in
-    let items = got length (λ _. 0) (itemsAt s p stop (count .result .value) (count .result .next)) (strings .result) (strings .ensures) (not-false _ (c .before .before .before .before .before .if2 .left)) in
-    c .bad-contents .ensures ∙ sym (fill-bad s p body stop (count .result .next) (count .result .value) (value-got (countAt s p body stop countLimit) (count .result) (count .ensures) ok) (strings .result .next) (items .value) (items .eq) (c .before .before .before .before .if3 .left) (c .before .before .before .if4 .left) (c .before .if5 .taken))
+    let items = got length (λ _. 0) (itemsAt s stop (count .result .value) (count .result .next)) (strings .result) (strings .ensures) (not-false _ (c .before .before .before .before .before .if2 .left)) in
+    c .bad-contents .ensures ∙ sym (fill-bad s p body stop (count .result .next) (count .result .value) (value-got (countAt s body stop countLimit) (count .result) (count .ensures) ok) (strings .result .next) (items .value) (items .eq) (c .before .before .before .before .if3 .left) (c .before .before .before .if4 .left) (c .before .if5 .taken))
 
 add-accept : tie.Need-add-accept
 add-accept c = omega (arith, c .before .before .if4 .left, c .before .before .before .before .before .before .before .before .before .before .before .pre .0 .inside, c .before .before .before .before .before .before .before .before .before .before .before .pre .0 .small)
@@ -120,8 +120,8 @@ returns-6 c = let s = now (c .before .before .before .before .before .before .be
     let count = c .before .before .before .before .before .before .before .before .before .before .count-word in
     let ok = not-false _ (c .before .before .before .before .before .before .before .before .if1 .left) in
     let strings = c .before .before .before .before .before .before .before .packed-strings in
-    let items = got length (λ _. 0) (itemsAt s p stop (count .result .value) (count .result .next)) (strings .result) (strings .ensures) (not-false _ (c .before .before .before .before .before .if2 .left)) in
-    c .accept2 .ensures ∙ ap (λ k. readStep (strings .result .next + 1) k 0) (items .counts) ∙ sym (fill-read s p body stop (count .result .next) (count .result .value) (value-got (countAt s p body stop countLimit) (count .result) (count .ensures) ok) (strings .result .next) (items .value) (items .eq) (c .before .before .before .before .if3 .left) (c .before .before .before .if4 .left) (c .before .if5 .left))
+    let items = got length (λ _. 0) (itemsAt s stop (count .result .value) (count .result .next)) (strings .result) (strings .ensures) (not-false _ (c .before .before .before .before .before .if2 .left)) in
+    c .accept2 .ensures ∙ ap (λ k. readStep (strings .result .next + 1) k 0) (items .counts) ∙ sym (fill-read s p body stop (count .result .next) (count .result .value) (value-got (countAt s body stop countLimit) (count .result) (count .ensures) ok) (strings .result .next) (items .value) (items .eq) (c .before .before .before .before .if3 .left) (c .before .before .before .if4 .left) (c .before .if5 .left))
 
 pub enumeration-fields-spec : {M : Type 1} → statement M
 enumeration-fields-spec =

@@ -61,7 +61,7 @@ accept-requires-2 : tie.Need-accept-requires-2
 accept-requires-2 c κs = search needs
 
 returns-4 : tie.Need-returns-4
-returns-4 c = c .accept2 .ensures ∙ ap (λ k. readStep (c .before .before .before .before .before .before .before .args .stop) k 0) (c .before .before .before .wide .ensures .eq) ∙ sym (name-read (now (c .before .before .before .before .before .before .before .args .d)) (c .before .before .before .before .before .before .before .args .p) (c .before .before .before .before .before .before .before .args .stop) (c .before .before .before .before .before .before .before .args .at) (c .before .before .before .before .before .before .before .pre .inside) (c .before .before .before .before .before .if1 .left) (rw (c .before .before .before .wide .ensures .eq) at (c .before .before .if2 .left)) (⊎-elim (λ w. inr (rw (c .before .before .before .wide .ensures .eq) at (w .2 .left))) (λ w. inl (rw (c .before .before .before .wide .ensures .eq) at (w .left))) (c .before .if3 .came)))
+returns-4 c = c .accept2 .ensures ∙ ap (λ k. readStep (c .before .before .before .before .before .before .before .args .stop) k 0) (c .before .before .before .wide .ensures .eq) ∙ sym (name-read (now (c .before .before .before .before .before .before .before .args .d)) (c .before .before .before .before .before .before .before .args .stop) (c .before .before .before .before .before .before .before .args .at) (c .before .before .before .before .before .before .before .pre .inside) (c .before .before .before .before .before .if1 .left) (rw (c .before .before .before .wide .ensures .eq) at (c .before .before .if2 .left)) (⊎-elim (λ w. inr (rw (c .before .before .before .wide .ensures .eq) at (w .2 .left))) (λ w. inl (rw (c .before .before .before .wide .ensures .eq) at (w .left))) (c .before .if3 .came)))
 
 pub name-spec : {M : Type 1} → statement M
 name-spec =

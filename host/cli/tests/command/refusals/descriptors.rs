@@ -1,7 +1,7 @@
 //! 1 to 12: descriptors.
 
 use super::{Refused, meaning};
-use crate::common::descriptors::{array, cluster, descriptor, quantity, string};
+use crate::common::descriptors::{array, cluster, descriptor, string};
 use crate::common::{Folder, hex};
 
 /// A descriptor refused with this number at this place, on this path, with what
@@ -57,11 +57,17 @@ fn numbers_3_to_5() {
         "size 6, 4 bytes there",
     ];
     descriptor_is_refused("refused-4-in", &second, 4, (10, &[1]), there);
-    let there = ["[00] 04 00 32", "code 32"];
-    descriptor_is_refused("refused-5", &hex("0004 0032"), 5, (0, &[]), there);
+    let there = [
+        "00 04 00 [32]",
+        "code 32, no type that is read here; its descriptor starts at 0",
+    ];
+    descriptor_is_refused("refused-5", &hex("0004 0032"), 5, (3, &[]), there);
     let inner = cluster(&[descriptor(1, &[]), descriptor(0x37, &[])]);
-    let there = [".. 00 50 00 02 00 04 00 01 [00] 04 00 37", "code 37"];
-    descriptor_is_refused("refused-5-in", &array(1, &inner), 5, (20, &[0, 1]), there);
+    let there = [
+        ".. 02 00 04 00 01 00 04 00 [37]",
+        "code 37, no type that is read here; its descriptor starts at 20",
+    ];
+    descriptor_is_refused("refused-5-in", &array(1, &inner), 5, (23, &[0, 1]), there);
 }
 
 #[test]
@@ -75,72 +81,32 @@ fn numbers_6_and_7() {
 }
 
 #[test]
-fn number_8() {
-    let count = ["[00] 04 00 50", "2 bytes needed, 0 left"];
-    descriptor_is_refused("refused-8", &hex("0004 0050"), 8, (0, &[]), count);
-    let item = ["[00] 08 00 15 00 01 03 61", "4 bytes needed, 2 left"];
-    let long = hex("0008 0015 0001 0361");
-    descriptor_is_refused("refused-8-item", &long, 8, (0, &[]), item);
-    // What follows the string is not its own.
-    let word = [
-        "00 10 00 50 00 02 [00] 06 00 30 FF FF 00 04 00 ..",
-        "4 bytes needed, 2 left",
+fn numbers_8_and_9() {
+    let there = [
+        "00 04 00 50 [end]",
+        "count: 2 bytes needed, 0 left; its descriptor starts at 0 and ends here",
     ];
-    let short = hex("0010 0050 0002 0006 0030 FFFF 0004 0001");
-    descriptor_is_refused("refused-8-word", &short, 8, (6, &[0]), word);
+    descriptor_is_refused("refused-8", &hex("0004 0050"), 8, (4, &[]), there);
+    let there = [
+        "00 06 00 50 [00] 00",
+        "0 members, at least 1 is needed; its descriptor starts at 0",
+    ];
+    descriptor_is_refused("refused-9", &hex("0006 0050 0000"), 9, (4, &[]), there);
 }
 
 #[test]
-fn number_9() {
-    let there = ["[00] 06 00 50 00 00", "0 members"];
-    descriptor_is_refused("refused-9", &hex("0006 0050 0000"), 9, (0, &[]), there);
-    let five = cluster(&[string(), array(5, &descriptor(1, &[]))]);
-    let there = [
-        ".. 00 08 00 30 FF FF FF FF [00] 1E 00 40 00 05 FF FF FF ..",
-        "5 dimensions",
-    ];
-    descriptor_is_refused("refused-9-in", &five, 9, (14, &[1]), there);
-    let ten = quantity(0x19, &[(1, 1); 10]);
-    let there = ["[00] 2E 00 19 00 0A 00 01 00 ..", "10 unit pairs"];
-    descriptor_is_refused("refused-9-pairs", &ten, 9, (0, &[]), there);
-}
-
-#[test]
-fn number_10_for_each_reason() {
-    let length = hex("0008 0030 FFFFFFFE");
-    let there = ["[00] 08 00 30 FF FF FF FE", "word FFFFFFFE"];
-    descriptor_is_refused("refused-10-length", &length, 10, (0, &[]), there);
-    let dimension = hex("000E 0040 0001 0000 0003 0004 0001");
-    let there = ["[00] 0E 00 40 00 01 00 00 00 ..", "word 00000003"];
-    descriptor_is_refused("refused-10-dimension", &dimension, 10, (0, &[]), there);
-    let base = cluster(&[quantity(0x1A, &[(9, 1)])]);
-    let there = [
-        "00 10 00 50 00 01 [00] 0A 00 1A 00 01 00 09 00 ..",
-        "base 9",
-    ];
-    descriptor_is_refused("refused-10-base", &base, 10, (6, &[0]), there);
-    let fill = hex("000A 0015 0001 0261 6201");
-    let there = ["[00] 0A 00 15 00 01 02 61 62 ..", "fill byte 01"];
-    descriptor_is_refused("refused-10-fill", &fill, 10, (0, &[]), there);
+fn numbers_10_to_12() {
     let arrays = array(1, &array(1, &descriptor(1, &[])));
     let there = [
-        ".. 00 40 00 01 FF FF FF FF [00] 0E 00 40 00 01 FF FF FF ..",
-        "an array in an array",
+        ".. 01 FF FF FF FF 00 0E 00 [40] 00 01 FF FF FF FF 00 04 ..",
+        "code 40, array in an array; its descriptor starts at 10",
     ];
-    descriptor_is_refused("refused-10-array", &arrays, 10, (10, &[0]), there);
-}
-
-#[test]
-fn numbers_11_and_12() {
-    let name = hex("0006 0003 0261");
-    let there = ["[00] 06 00 03 02 61", "2 bytes left of its size"];
-    descriptor_is_refused("refused-11", &name, 11, (0, &[]), there);
-    let inner = cluster(&[descriptor(1, &[]), name]);
+    descriptor_is_refused("refused-10", &arrays, 10, (13, &[0]), there);
     let there = [
-        ".. 00 50 00 02 00 04 00 01 [00] 06 00 03 02 61",
-        "2 bytes left of its size",
+        "00 06 00 03 [02] 61",
+        "a name of 2 characters takes 4 bytes, 2 left; its descriptor starts at 0",
     ];
-    descriptor_is_refused("refused-11-in", &inner, 11, (10, &[1]), there);
+    descriptor_is_refused("refused-11", &hex("0006 0003 0261"), 11, (4, &[]), there);
     let behind = hex("0004 0003 AB CD");
     let there = ["00 04 00 03 [AB] CD", "2 bytes behind it"];
     descriptor_is_refused("refused-12", &behind, 12, (4, &[]), there);
@@ -182,8 +148,9 @@ fn a_place_far_behind_is_told_by_every_command() {
     folder.put("data", &[0]);
     let line = |role: &str| {
         format!(
-            "types: refused with 10: {} ({role}; place 1598; in 199): \
-             .. 00 08 00 30 FF FF FF FF [00] 08 00 30 00 FF FF FF; word 00FFFFFF",
+            "types: refused with 10: {} ({role}; place 1602; in 199): \
+             .. FF FF FF FF 00 08 00 30 [00] FF FF FF; length: 00FFFFFF, not FFFFFFFF; \
+             its descriptor starts at 1598",
             meaning(10)
         )
     };

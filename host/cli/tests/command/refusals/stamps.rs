@@ -1,7 +1,7 @@
 //! Time stamps: what is wrong in one (5, 8, 10), what is refused of their data and
 //! of a path (21, 30, 31), and 32, a difference that is too long.
 
-use super::{Path, Refused};
+use super::{Path, Refused, around};
 use crate::common::descriptors::{array, cluster, descriptor, halves, named, time_stamp};
 use crate::common::{Folder, hex};
 
@@ -40,34 +40,18 @@ fn member_is_refused(test: &str, member: &[u8], number: u32, at: (usize, &[usize
     refused.by(&folder, &["difference", "types", "data", "1", "1"]);
 }
 
-/// Eight bytes on either side of the place.
-fn around(bytes: &[u8], place: usize) -> String {
-    let start = place.saturating_sub(8);
-    let end = bytes.len().min(place + 9);
-    let shown: Vec<String> = (start..end)
-        .map(|at| match at == place {
-            true => format!("[{:02X}]", bytes[at]),
-            false => format!("{:02X}", bytes[at]),
-        })
-        .collect();
-    let before = if start > 0 { ".. " } else { "" };
-    let behind = match place == bytes.len() {
-        true => " [end]",
-        false if end < bytes.len() => " ..",
-        false => "",
-    };
-    format!("{before}{}{behind}", shown.join(" "))
-}
-
 #[test]
 fn a_subtype_that_is_missing_or_another() {
     let bare = descriptor(0x54, &[]);
-    member_is_refused("stamps-8", &bare, 8, (0, &[]), "2 bytes needed, 0 left");
+    let facts = "subtype: 2 bytes needed, 0 left; its descriptor starts at 12 and ends here";
+    member_is_refused("stamps-8", &bare, 8, (4, &[]), facts);
     let other = stamp_of(7, &halves());
-    member_is_refused("stamps-5", &other, 5, (0, &[]), "subtype 7");
+    let facts = "subtype 7, not 6; its descriptor starts at 12";
+    member_is_refused("stamps-5", &other, 5, (3, &[]), facts);
     let mut high = time_stamp();
     high[4] = 1;
-    member_is_refused("stamps-5-high", &high, 5, (0, &[]), "subtype 262");
+    let facts = "subtype 262, not 6; its descriptor starts at 12";
+    member_is_refused("stamps-5-high", &high, 5, (3, &[]), facts);
 }
 
 #[test]
@@ -101,13 +85,14 @@ fn anything_else_inside() {
 fn what_is_inside_is_judged_first_and_the_name_last() {
     let mut code = time_stamp();
     code[15] = 0x32;
-    member_is_refused("stamps-inside", &code, 5, (12, &[0, 0]), "code 32");
+    let facts = "code 32, no type that is read here; its descriptor starts at 24";
+    member_is_refused("stamps-inside", &code, 5, (15, &[0, 0]), facts);
     let missing = stamp_of(6, &[]);
     member_is_refused("stamps-empty", &missing, 2, (6, &[0]), "0 bytes left");
     let mut rest = named(time_stamp(), b"abc");
     rest[28] = 9;
-    let facts = "4 bytes left of its size";
-    member_is_refused("stamps-name", &rest, 11, (0, &[]), facts);
+    let facts = "a name of 9 characters takes 10 bytes, 4 left; its descriptor starts at 12";
+    member_is_refused("stamps-name", &rest, 11, (28, &[]), facts);
     rest[15] = 7;
     let facts = "inside is no cluster of 03, 03, 07 and 07, all without names";
     member_is_refused("stamps-order", &rest, 10, (0, &[]), facts);

@@ -8,14 +8,15 @@ pub fn add(limits: &mut Vec<Limit>) {
     last_names(limits);
     fill_bytes(limits);
     for depth in 2..9 {
-        for (what, bytes, number) in wrong() {
+        for (what, bytes, number, place) in wrong() {
             let what = format!("{what} at depth {depth}");
-            let (bytes, place) = buried(bytes, depth - 1);
-            // The array in this one would be at depth 9.
-            let inside = place > 6 * (depth - 1);
-            let number = if inside && depth == 8 { 6 } else { number };
-            limits.refused(what, bytes, number, place);
+            let (bytes, start) = buried(bytes, depth - 1);
+            limits.refused(what, bytes, number, start + place);
         }
+        let (bytes, start) = buried(twice(), depth - 1);
+        let (number, place) = if depth == 8 { (6, 10) } else { (10, 13) };
+        let what = format!("an array in an array at depth {depth}");
+        limits.refused(what, bytes, number, start + place);
     }
     last_rows(limits);
     deepest(limits);
@@ -84,7 +85,8 @@ fn last_name(limits: &mut Vec<Limit>, what: &str, tree: impl Fn(usize) -> Tree) 
     if let Some(row) = last.filter(|row| row[6] % 2 == 0) {
         bytes[4095] = 0x80;
         let what = format!("{what}, with a wrong fill byte");
-        limits.refused(what, bytes, 11, usize::from(row[1]));
+        // The body ends where the name's length stands.
+        limits.refused(what, bytes, 11, usize::from(row[5]) - 1);
     }
     let longer = tree(most + 2).normal_form().bytes;
     limits.refused(format!("{what} ends at 4,098"), longer, 1, 0);
@@ -111,94 +113,100 @@ fn fill_bytes(limits: &mut Vec<Limit>) {
             for fill in [1, 0x80, 0xFF] {
                 let mut bytes = bytes.clone();
                 bytes[6 + count] = fill;
-                limits.refused(format!("{what}, fill byte {fill}"), bytes, 10, 0);
+                limits.refused(format!("{what}, fill byte {fill}"), bytes, 10, 6 + count);
             }
         }
     }
 }
 
-/// A descriptor with one fault, and its number.
-type Wrong = (&'static str, Vec<u8>, u32);
+/// A descriptor with one fault, its number, and its place from the start on.
+pub type Wrong = (&'static str, Vec<u8>, u32, usize);
 
-fn wrong() -> Vec<Wrong> {
+pub fn wrong() -> Vec<Wrong> {
     [wrong_lengths(), wrong_counts(), wrong_contents()].concat()
 }
 
 fn wrong_lengths() -> Vec<Wrong> {
     let one_of_two = [0, 2, 0xFF, 0xFF, 0xFF, 0xFF];
     vec![
-        ("a high size", raw(0x8000, 0x03, &[]), 3),
-        ("an odd size", raw(5, 0x03, &[0, 0]), 4),
-        ("a size past the end", raw(6, 0x03, &[]), 4),
-        ("an unknown code", whole(0x0F, &[]), 5),
-        ("no length word", whole(0x30, &[0xFF, 0xFF]), 8),
-        ("an item that runs over", whole(0x17, &[0, 1, 2, 0]), 8),
-        ("a pair missing", whole(0x1E, &[0, 1, 0, 0]), 8),
-        ("a dimension missing", whole(0x40, &one_of_two), 8),
+        ("a high size", raw(0x8000, 0x03, &[]), 3, 0),
+        ("an odd size", raw(5, 0x03, &[0, 0]), 4, 0),
+        ("a size past the end", raw(6, 0x03, &[]), 4, 0),
+        ("an unknown code", whole(0x0F, &[]), 5, 3),
+        ("half a length word", whole(0x30, &[0xFF, 0xFF]), 8, 6),
+        ("an item that runs over", whole(0x17, &[0, 1, 2, 0]), 8, 8),
+        ("an item missing", whole(0x17, &[0, 2, 1, 0]), 8, 8),
+        ("half a pair", whole(0x1E, &[0, 1, 0, 0]), 8, 8),
+        ("a dimension missing", whole(0x40, &one_of_two), 8, 10),
     ]
 }
 
 fn wrong_counts() -> Vec<Wrong> {
     vec![
-        ("no count of items", whole(0x15, &[]), 8),
-        ("no count of pairs", whole(0x19, &[]), 8),
-        ("no count of dimensions", whole(0x40, &[]), 8),
-        ("no count of members", whole(0x50, &[]), 8),
-        ("no subtype", whole(0x54, &[]), 8),
-        ("no items", whole(0x16, &[0, 0]), 9),
-        ("no pairs", whole(0x1B, &[0, 0]), 9),
-        ("ten pairs", whole(0x1C, &[0, 10]), 9),
-        ("no dimensions", whole(0x40, &[0, 0]), 9),
-        ("five dimensions", whole(0x40, &[0, 5]), 9),
-        ("no members", whole(0x50, &[0, 0]), 9),
+        ("no count of items", whole(0x15, &[]), 8, 4),
+        ("no count of pairs", whole(0x19, &[]), 8, 4),
+        ("no count of dimensions", whole(0x40, &[]), 8, 4),
+        ("no count of members", whole(0x50, &[]), 8, 4),
+        ("no length word", whole(0x30, &[]), 8, 4),
+        ("no subtype", whole(0x54, &[]), 8, 4),
+        ("subtype 7", whole(0x54, &[0, 7]), 5, 3),
+        ("no items", whole(0x16, &[0, 0]), 9, 4),
+        ("no pairs", whole(0x1B, &[0, 0]), 9, 4),
+        ("ten pairs", whole(0x1C, &[0, 10]), 9, 4),
+        ("no dimensions", whole(0x40, &[0, 0]), 9, 4),
+        ("five dimensions", whole(0x40, &[0, 5]), 9, 4),
+        ("no members", whole(0x50, &[0, 0]), 9, 4),
     ]
 }
 
 fn wrong_contents() -> Vec<Wrong> {
     let word = |last| [0xFF, 0xFF, 0xFF, last];
-    let array_of = |element: &[u8]| {
-        let dimension = [&[0, 1][..], &word(0xFF)].concat();
-        whole(0x40, &[&dimension, element].concat())
-    };
-    let twice = array_of(&array_of(&raw(4, 0x03, &[])));
     let dimension = whole(0x40, &[&[0, 1][..], &word(0x7F)].concat());
     let unnamed = whole(0x30, &[&word(0xFF)[..], &[0, 1]].concat());
+    let late = [0, 2, 0, 8, 0, 0, 0, 9, 0, 0];
     vec![
-        ("a wrong fill byte", whole(0x15, &[0, 1, 0, 1]), 10),
-        ("base index 9", whole(0x1D, &[0, 1, 0, 9, 0, 0]), 10),
-        ("a wrong length word", whole(0x30, &word(0xFE)), 10),
-        ("a wrong dimension", dimension, 10),
-        ("an array in an array", twice, 10),
-        ("no name", whole(0x21, &[2, 0]), 11),
-        ("a string without name", unnamed, 11),
+        ("a wrong fill byte", whole(0x15, &[0, 1, 0, 1]), 10, 7),
+        ("base index 9", whole(0x1D, &[0, 1, 0, 9, 0, 0]), 10, 6),
+        ("base index 9 in pair 1", whole(0x1D, &late), 10, 10),
+        ("a wrong length word", whole(0x30, &word(0xFE)), 10, 4),
+        ("a wrong dimension", dimension, 10, 6),
+        ("no name", whole(0x21, &[2, 0]), 11, 4),
+        ("a string without name", unnamed, 11, 8),
     ]
 }
 
-/// The bytes inside this many clusters, and where the refused one starts.
+/// An array in an array, which starts at 10.
+pub fn twice() -> Vec<u8> {
+    let array_of =
+        |element: &[u8]| whole(0x40, &[&[0, 1, 0xFF, 0xFF, 0xFF, 0xFF], element].concat());
+    array_of(&array_of(&raw(4, 0x03, &[])))
+}
+
+/// The bytes inside this many clusters, and where they start.
 fn buried(inner: Vec<u8>, clusters: usize) -> (Vec<u8>, usize) {
-    let in_array = inner[3] == 0x40 && inner.get(13) == Some(&0x40);
-    let place = 6 * clusters + if in_array { 10 } else { 0 };
     let wrap = |inner: Vec<u8>, _| whole(0x50, &[vec![0, 1], inner].concat());
-    ((0..clusters).fold(inner, wrap), place)
+    ((0..clusters).fold(inner, wrap), 6 * clusters)
+}
+
+/// The bytes as the last member behind this many others.
+fn behind(before: usize, last: &[u8]) -> Vec<u8> {
+    let members = raw(4, 0x21, &[]).repeat(before);
+    let count = (before as u16 + 1).to_be_bytes();
+    whole(0x50, &[&count[..], &members, last].concat())
 }
 
 /// Row 255 and row 256 refused: the place tells which comes first.
 fn last_rows(limits: &mut Vec<Limit>) {
-    for (what, bytes, number) in wrong() {
-        let (inner, place) = buried(bytes, 0);
-        for before in [253, 254] {
-            let members = raw(4, 0x21, &[]).repeat(before);
-            let count = (before as u16 + 1).to_be_bytes();
-            let whole = whole(0x50, &[&count[..], &members, &inner].concat());
-            let what = format!("{what} as row {}", before + 2);
-            // The array in this one would be row 257.
-            let number = if place > 0 && before == 254 {
-                7
-            } else {
-                number
-            };
-            limits.refused(what, whole, number, 6 + 4 * before + place);
+    for before in [253, 254] {
+        let (start, row) = (6 + 4 * before, before + 2);
+        for (what, bytes, number, place) in wrong() {
+            let what = format!("{what} as row {row}");
+            limits.refused(what, behind(before, &bytes), number, start + place);
         }
+        // The array in this one is the row behind.
+        let (number, place) = if row == 256 { (7, 10) } else { (10, 13) };
+        let what = format!("an array in an array as row {row}");
+        limits.refused(what, behind(before, &twice()), number, start + place);
     }
 }
 
@@ -215,10 +223,12 @@ fn deepest(limits: &mut Vec<Limit>) {
             false => limits.refused(format!("{what} 8"), bytes, 6, usize::from(rows[8][1])),
         }
     }
-    for (what, bytes, number) in wrong().into_iter().filter(|wrong| wrong.2 <= 5) {
-        let (bytes, place) = buried(bytes, 8);
-        limits.refused(format!("{what} at depth 9"), bytes, number, place);
+    // Another subtype is judged after the depth.
+    let first = |wrong: &Wrong| wrong.2 <= 5 && wrong.1[3] != 0x54;
+    for (what, bytes, number, place) in wrong().into_iter().filter(first) {
+        let (bytes, start) = buried(bytes, 8);
+        limits.refused(format!("{what} at depth 9"), bytes, number, start + place);
     }
-    let (bytes, place) = buried(whole(0x50, &[0, 1]), 7);
-    limits.refused("nothing at depth 9", bytes, 2, place + 6);
+    let (bytes, start) = buried(whole(0x50, &[0, 1]), 7);
+    limits.refused("nothing at depth 9", bytes, 2, start + 6);
 }

@@ -42,24 +42,24 @@ fn subtypes(limits: &mut Vec<Limit>) {
     limits.accepted("a time stamp", subtyped(6, &right), 6);
     for subtype in SUBTYPES {
         let what = format!("subtype {subtype}");
-        limits.refused(&what, subtyped(subtype, &right), 5, 0);
-        limits.refused(format!("{what} alone"), subtyped(subtype, &[]), 5, 0);
+        limits.refused(&what, subtyped(subtype, &right), 5, 3);
+        limits.refused(format!("{what} alone"), subtyped(subtype, &[]), 5, 3);
         let what = format!("{what}, nothing right inside");
-        limits.refused(what, subtyped(subtype, &[0xFF; 6]), 5, 0);
+        limits.refused(what, subtyped(subtype, &[0xFF; 6]), 5, 3);
     }
     let wrap = |inner: Vec<u8>, _| whole(0x50, &[vec![0, 1], inner].concat());
     for clusters in 1..=8 {
-        let number = if clusters == 8 { 6 } else { 5 };
+        let (number, place) = if clusters == 8 { (6, 0) } else { (5, 3) };
         let bytes = (0..clusters).fold(subtyped(3, &right), wrap);
         let what = format!("subtype 3 at depth {}", clusters + 1);
-        limits.refused(what, bytes, number, 6 * clusters);
+        limits.refused(what, bytes, number, 6 * clusters + place);
     }
-    for (before, number) in [(253, 5), (254, 5), (255, 7)] {
+    for (before, number, place) in [(253, 5, 3), (254, 5, 3), (255, 7, 0)] {
         let members = raw(4, 0x21, &[]).repeat(before);
         let count = (before as u16 + 1).to_be_bytes();
         let bytes = whole(0x50, &[&count[..], &members, &subtyped(3, &[])].concat());
         let what = format!("subtype 3 as row {}", before + 2);
-        limits.refused(what, bytes, number, 6 + 4 * before);
+        limits.refused(what, bytes, number, 6 + 4 * before + place);
     }
 }
 
@@ -72,26 +72,28 @@ fn held(limits: &mut Vec<Limit>) {
     let bytes = whole(0x50, &[vec![0, 2], beside].concat());
     limits.refused("a time stamp's cluster outside", bytes, 2, 12);
     let right = encode(Body::stamp());
-    for (what, place, byte, number, start) in [
+    for (what, changed, byte, number, place) in [
         ("a high size", 6, 0x80, 3, 6),
         ("an odd size", 7, 0x17, 4, 6),
         ("a size past the end", 7, 0x18, 4, 6),
-        ("an unknown code", 9, 0x51, 5, 6),
-        ("no members", 11, 0, 9, 6),
-        ("three members of four", 11, 3, 11, 6),
+        ("an unknown code", 9, 0x51, 5, 9),
+        ("no dimension", 9, 0x40, 10, 12),
+        ("no members", 11, 0, 9, 10),
+        ("three members of four", 11, 3, 11, 24),
         ("five members of four", 11, 5, 2, 28),
-        ("an unknown code of an integer", 27, 0x0F, 5, 24),
-        ("no subtype", 27, 0x54, 8, 24),
-        ("no name of an integer", 13, 6, 11, 12),
+        ("an unknown code of an integer", 27, 0x0F, 5, 27),
+        ("no subtype", 27, 0x54, 8, 28),
+        ("no length word", 19, 0x30, 8, 20),
+        ("no name of an integer", 13, 6, 11, 16),
     ] {
         let mut bytes = right.clone();
-        bytes[place] = byte;
+        bytes[changed] = byte;
         let what = format!("{what} in a time stamp");
-        limits.refused(&what, bytes.clone(), number, start);
+        limits.refused(&what, bytes.clone(), number, place);
         // Even if an integer before it has the wrong code.
-        if place > 15 {
+        if changed > 15 {
             bytes[15] = 0x07;
-            limits.refused(format!("{what}, and a code"), bytes, number, start);
+            limits.refused(format!("{what}, and a code"), bytes, number, place);
         }
     }
 }
@@ -193,8 +195,8 @@ fn behind(limits: &mut Vec<Limit>) {
     ] {
         let what = format!("{left:?} behind in a time stamp");
         let bytes = subtyped(6, &[&right, left].concat());
-        limits.refused(&what, bytes.clone(), 11, 0);
-        limits.refused(&what, [bytes, vec![0]].concat(), 11, 0);
+        limits.refused(&what, bytes.clone(), 11, 28);
+        limits.refused(&what, [bytes, vec![0]].concat(), 11, 28);
         let bytes = subtyped(6, &[&wrong, left].concat());
         limits.refused(format!("{what}, and a code"), bytes, 10, 0);
     }
