@@ -5,10 +5,18 @@ _kerbcanopy() {
     COMPREPLY=()
     for ((index = 1; index < COMP_CWORD; index++)); do
         case $ended${COMP_WORDS[index]} in
-            -o | --room) ((index += 1)) ;;
+            -o | --room | --capacity | --bytes) ((index += 1)) ;;
             --) ended=' ' ;;
             -?*) ;;
-            *) if [ -z "$command" ]; then command=${COMP_WORDS[index]}; else ((operands += 1)); fi ;;
+            *)
+                if [ -z "$command" ]; then
+                    command=${COMP_WORDS[index]}
+                elif [ "$command" = book ]; then
+                    command="book ${COMP_WORDS[index]}"
+                else
+                    ((operands += 1))
+                fi
+                ;;
         esac
     done
     case $command in
@@ -24,8 +32,13 @@ _kerbcanopy() {
         little) options='-o --room' files=2 ;;
         big) options='-o --room' files=2 ;;
         read) options='-o --room' files=3 ;;
+        'book new') options='--capacity --bytes' files=1 ;;
+        'book check') options='' files=1 ;;
+        'book add') options='' files=3 ;;
+        'book find') options='--descriptor --data -o' files=1 ;;
+        'book list') options='' files=1 ;;
     esac
-    if [ -z "$ended" ] && [ "$before" = --room ]; then
+    if [ -z "$ended" ] && [[ $before == --room || $before == --capacity || $before == --bytes ]]; then
         return
     elif [ -z "$ended" ] && [ "$before" = -o ]; then
         files=1 path='' operands=0
@@ -33,7 +46,10 @@ _kerbcanopy() {
         mapfile -t COMPREPLY < <(compgen -W "$options --hex --json -h --help -V --version --" -- "$word")
         return
     elif [ -z "$command" ]; then
-        mapfile -t COMPREPLY < <(compgen -W 'check compare normal data dump explain value view difference little big read' -- "$word")
+        mapfile -t COMPREPLY < <(compgen -W 'check compare normal data dump explain value view difference little big read book' -- "$word")
+        return
+    elif [ "$command" = book ]; then
+        mapfile -t COMPREPLY < <(compgen -W 'new check add find list' -- "$word")
         return
     fi
     if [ "$operands" -lt "$files" ] && [ "$operands" != "$path" ]; then

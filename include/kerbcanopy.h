@@ -1,11 +1,13 @@
 /*
- * Kerbcanopy: reads LabVIEW type descriptors and flattened data, and hands a record over in a reader's shape. Any bytes may come.
+ * Kerbcanopy: reads LabVIEW type descriptors and flattened data, hands a record over in a reader's shape, and keeps a run of blanks in a
+ * book. Any bytes may come.
  *
- * Every function takes bytes, or a path's steps, as a pointer and a length, and asks of the caller only what C can't show: that as many of
- * them can be read, or in an output written, as the length says, that the steps, and numbers lent for an answer, are aligned, that nothing
- * else changes them during the call, and that an output overlaps no input and no other output. Where the length is 0 the pointer may be
- * NULL: nothing is read or written through it. The difference of two time stamps takes numbers alone, and any will do. Nothing is kept
- * between calls, and nothing is allocated.
+ * Every function takes bytes, a path's steps or places for identifiers, as a pointer and a length, and asks of the caller only what C can't
+ * show: that as many of them can be read, or in an output written, as the length says, that the steps, the identifiers, and numbers lent
+ * for an answer, are aligned, that nothing else changes them during the call, and that an output overlaps no input and no other output; a
+ * book that a record is added to is an output, so the record stands outside of it. Where the length is 0 the pointer may be NULL: nothing
+ * is read or written through it. The difference of two time stamps takes numbers alone, and any will do. Nothing is kept between calls,
+ * and nothing is allocated.
  *
  * Every answer has a number, the input at fault and a place.
  *
@@ -44,7 +46,14 @@
  *       42  the writer has no member of this name (input 2)                 reader's member
  *       43  the writer has several members of this name (input 2)           reader's member
  *       44  the writer's member of this name is of another type (input 2)   reader's member
- *       50  output too small (input 4)                                      length needed
+ *       50  output too small (input 4)                                      length or count needed
+ *       60  the book has a record of this identifier already (input 4)      its entry
+ *       61  no entry of the book is free (input 4)                          0
+ *       62  no room for the record in the book (input 4)                    its body's length
+ *       63  no well-formed book: under 4 or over 65,536 bytes;              0
+ *           contents too long for it, or a count over the capacity;         the capacity
+ *           a bad entry (input 4)                                           the first of them
+ *       64  the book has no record of this identifier (input 4)             0
  *
  * "Start" is the first byte of the descriptor at fault, counted from the first byte lent; its "low code byte" is the fourth from there, for
  * another subtype of a time stamp too; its "end" is its start and its size together: the first byte after it, or the number of lent bytes.
@@ -59,6 +68,18 @@
  * (all size words of an array, or the length word of a string, are there, 21, before 22 is judged; a string's characters are looked for
  * after that, 21); last 25. Then comes the path, 30, and what it leads to, 31; or the reader's members, 40 over all of them, 41, then 42,
  * 43, 44 member by member; and after all of them 50. "Reader's member" is its number in the reader's cluster, from 0.
+ *
+ * A blank book is one buffer for a run of blanks, big-endian. It starts with its contents: a 16-bit capacity, the 16-bit count of entries in
+ * use, and as many entries as the capacity says, of 16 bytes each: identifier, first byte of the body counted from that of the book,
+ * length of the descriptor, length of the data, 32 bits each. Entries are numbered from 0; those in use come first, and unused ones are
+ * zero. The bodies follow the contents in the order of their entries, with nothing between them. A body is a descriptor and its data, both
+ * accepted, and its identifier is what kc_read_record gives of it for the reader 0010 0050 0001 000A 0007 0562 6C61 6E6B: the one member
+ * "blank" that is an unsigned number of 32 bits. The entry has the same, and no earlier entry has it. What stands behind the last body is
+ * free and may be anything. So the capacity and zeros are a book with no blank in it yet.
+ *
+ * A book is judged as a whole before anything else: its length, its contents' length and its count, then each entry in use in order,
+ * where its body starts and ends before what stands in it, then the unused ones. After it comes the record that is to be added, with the
+ * refusals of kc_read_record for that reader, and 60, 61, 62; or the identifier, 64; or the places, 50.
  */
 #ifndef KERBCANOPY_H
 #define KERBCANOPY_H
@@ -81,6 +102,7 @@
 #define KC_MAX_UNIT_PAIRS 9
 #define KC_MAX_BASE_INDEX 8
 #define KC_MAX_DATA 65536
+#define KC_MAX_BOOK 65536
 #define KC_MAX_LENGTH 0x7FFFFFFF
 
 /* How many numbers an answer, a row and the table are, where they are lent as numbers. */
@@ -148,7 +170,12 @@ enum kc_number {
     KC_REFUSED_MISSING = 42,
     KC_REFUSED_DOUBLED = 43,
     KC_REFUSED_TYPE = 44,
-    KC_REFUSED_ROOM = 50
+    KC_REFUSED_ROOM = 50,
+    KC_REFUSED_TAKEN = 60,
+    KC_REFUSED_NO_ENTRY = 61,
+    KC_REFUSED_NO_SPACE = 62,
+    KC_REFUSED_BOOK = 63,
+    KC_REFUSED_NOT_FOUND = 64
 };
 
 /* The input at fault. Of two descriptors the first is the writer's, where one is. */
@@ -189,7 +216,7 @@ typedef struct { kc_answer answer; kc_row rows[256]; } kc_checked;
 
 typedef struct { kc_answer answer; bool equal; } kc_compared;
 
-/* A part of the lent data: its first byte and its length in bytes. */
+/* A part of the lent data or book: its first byte and its length in bytes. */
 typedef struct { kc_answer answer; size_t start, length; } kc_part;
 
 /*
@@ -326,6 +353,43 @@ kc_difference kc_stamp_difference(int32_t first_seconds_high, int32_t first_seco
                                   uint32_t second_fraction_high, uint32_t second_fraction_low);
 
 /*
+ * Reads any bytes as a blank book.
+ *
+ * Accepted: number 0, input 0, place 0.
+ * Refused: 63 with input 4.
+ */
+kc_answer kc_store_check(const uint8_t *store, size_t store_len);
+
+/*
+ * Adds a record to a blank book: writes the descriptor and the data as lent behind the last body, its entry behind the last in use, and the
+ * count, which rises by one. Nothing else changes. The descriptor and the data overlap no byte of the book, used or free.
+ *
+ * Accepted: number 0, input 0, place 0; the book is well formed again.
+ * Refused: 63 with input 4, the book being judged before the record; 1 to 12 with input 1 or 20 to 23 or 25 with input 3; 41 with input 1
+ * where the record is no cluster; 42 to 44 with input 2 and place 0 where its member "blank" is missing, there twice or more, or no
+ * unsigned number of 32 bits; then with input 4, in this order, 60 where an entry has the identifier already, 61 where all entries are
+ * in use, 62 where the descriptor and the data are longer than what is free behind the last body. Nothing is written.
+ */
+kc_answer kc_store_add(uint8_t *store, size_t store_len, const uint8_t *descriptor, size_t descriptor_len,
+                       const uint8_t *data, size_t data_len);
+
+/*
+ * Finds the whole body of the one record with this identifier: its descriptor, whose size says where it ends, and its data.
+ *
+ * Accepted: number 0, input 0, place 0, and the body's start and length in the book.
+ * Refused: 63 with input 4, or 64 with input 4 where no entry has the identifier; the part is empty at the front, start 0 and length 0.
+ */
+kc_part kc_store_find(const uint8_t *store, size_t store_len, uint32_t identifier);
+
+/*
+ * Writes the identifiers in the order of their entries to the front of `identifiers`, which has `identifiers_len` places.
+ *
+ * Accepted: number 0, input 0, and the place is the count of entries in use; `identifiers` beyond it keeps its numbers.
+ * Refused: 63 with input 4; or 50 with input 4 where there are too few places, the place being that count. Nothing is written.
+ */
+kc_answer kc_store_list(const uint8_t *store, size_t store_len, uint32_t *identifiers, size_t identifiers_len);
+
+/*
  * The same questions for callers that can't take a struct by value, such as LabVIEW's Call Library Function node. Each of these takes what
  * the function of its name without `_into` takes, then pointers, none of them NULL, to numbers that are lent for the answer. Every call,
  * a refusal too, sets each of these numbers to what stands in the struct that the other function returns:
@@ -337,7 +401,7 @@ kc_difference kc_stamp_difference(int32_t first_seconds_high, int32_t first_seco
  *   kind, bits          those of the kc_value
  *   seconds, fraction   those of the kc_difference
  *
- * `out` is left as the other function leaves it.
+ * `out`, the book and `identifiers` are left as the other function leaves them.
  */
 void kc_check_descriptor_into(const uint8_t *descriptor, size_t descriptor_len,
                               uint32_t answer[KC_ANSWER_NUMBERS], uint16_t table[KC_TABLE_NUMBERS]);
@@ -374,6 +438,17 @@ void kc_stamp_difference_into(int32_t first_seconds_high, int32_t first_seconds_
                               int32_t second_seconds_high, int32_t second_seconds_low,
                               uint32_t second_fraction_high, uint32_t second_fraction_low,
                               uint32_t answer[KC_ANSWER_NUMBERS], int64_t *seconds, uint64_t *fraction);
+
+void kc_store_check_into(const uint8_t *store, size_t store_len, uint32_t answer[KC_ANSWER_NUMBERS]);
+
+void kc_store_add_into(uint8_t *store, size_t store_len, const uint8_t *descriptor, size_t descriptor_len,
+                       const uint8_t *data, size_t data_len, uint32_t answer[KC_ANSWER_NUMBERS]);
+
+void kc_store_find_into(const uint8_t *store, size_t store_len, uint32_t identifier,
+                        uint32_t answer[KC_ANSWER_NUMBERS], uint64_t *start, uint64_t *length);
+
+void kc_store_list_into(const uint8_t *store, size_t store_len, uint32_t *identifiers, size_t identifiers_len,
+                        uint32_t answer[KC_ANSWER_NUMBERS]);
 
 #ifdef __cplusplus
 }

@@ -1,12 +1,12 @@
-"""Descriptors and data as trees and values, encoded from document 01's rules without a look at the library, and hypothesis' strategies
-that make them. What the tests hold the library against.
+"""Descriptors and data as trees and values, and blank books of them, encoded from the rules of documents 01 and 02 without a look at the
+library, and hypothesis' strategies that make them. What the tests hold the library against.
 """
 
 from __future__ import annotations
 
 import struct
 from dataclasses import dataclass, replace
-from typing import Any, Callable, Iterator, List, Optional, Tuple
+from typing import Any, Callable, Iterator, List, Optional, Sequence, Tuple
 
 from hypothesis import strategies as st
 
@@ -266,3 +266,38 @@ def clusters(draw: Callable[..., Any]) -> Tuple[Type, Any]:
         tree = Type(CLUSTER, inside=(Type(0x07, b"id"),))
     value = draw(values(tree))
     return tree, value
+
+
+#: The member of a rig that a book goes by, and the reader's shape that it is read with.
+BLANK = Type(0x07, b"blank")
+SHAPE = bytes.fromhex("0010 0050 0001 000A 0007 0562 6C61 6E6B")
+
+#: A record for a book: its identifier, its descriptor and its data.
+Record = Tuple[int, bytes, bytes]
+
+#: The ends, and numbers that are alike in their low bits.
+identifiers = st.sampled_from([0, 1, 9, 9 + (1 << 12), 9 + (1 << 16), (1 << 32) - 1]) | st.integers(0, (1 << 32) - 1)
+
+
+@st.composite
+def blanks(draw: Callable[..., Any]) -> Record:
+    """A record of a rig that has a blank's identifier among its members."""
+    members = draw(st.lists(leaves, max_size=3))
+    members = [replace(member, name=None) if member.name == BLANK.name else member for member in members]
+    at = draw(st.integers(0, len(members)))
+    tree = Type(CLUSTER, draw(names), inside=(*members[:at], BLANK, *members[at:]))
+    identifier = draw(identifiers)
+    inside = [draw(values(member)) for member in members]
+    reserved = st.integers(0, 255)
+    descriptor = described(tree, lambda: int(draw(reserved)))[0]
+    return identifier, descriptor, flattened(tree, (*inside[:at], identifier, *inside[at:]))
+
+
+def book(capacity: int, records: Sequence[Record], free: bytes = b"") -> bytes:
+    """A book with an entry in use for each record, and these bytes behind the last body."""
+    contents, bodies = struct.pack(">HH", capacity, len(records)), b""
+    for identifier, descriptor, data in records:
+        start = 4 + 16 * capacity + len(bodies)
+        contents += struct.pack(">4I", identifier, start, len(descriptor), len(data))
+        bodies += descriptor + data
+    return contents + bytes(16 * (capacity - len(records))) + bodies + free

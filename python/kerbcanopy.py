@@ -1,4 +1,4 @@
-"""Reads LabVIEW type descriptors and flattened data, and hands a record over in a reader's shape.
+"""Reads LabVIEW type descriptors and flattened data, hands a record over in a reader's shape, and keeps a run of blanks in a book.
 
     >>> rig = bytes.fromhex("00140050 0002 00060002 0174 00080007 02696400")
     >>> reader = bytes.fromhex("000E0050 0001 00080007 02696400")
@@ -7,8 +7,20 @@
 
 Any bytes may come. Every function passes them to the proved library libkerbcanopy, which judges them; what it refuses is raised as
 `Refusal`, with the number, the input at fault and the place. Inputs are bytes, or anything that has bytes (bytearray, memoryview, ..),
-and are never changed. A function whose name ends in `_into` writes to the front of a buffer that is lent, such as a bytearray, and
-returns the length written: beyond it, and after a refusal, the buffer keeps its bytes.
+and are never changed, but for a book that a record is added to. A function whose name ends in `_into` writes to the front of a buffer that
+is lent, such as a bytearray, and returns the length written: beyond it, and after a refusal, the buffer keeps its bytes.
+
+A blank book starts with a capacity and a count of entries in use, 16 bits each, and its entries; the capacity and zeros are one with no
+blank in it yet:
+
+    >>> book = bytearray(100)
+    >>> book[1] = 2
+    >>> rig = bytes.fromhex("00160050 0002 00060002 0174 000A0007 05626C616E6B")
+    >>> store_add(book, rig, bytes.fromhex("0019 00000009"))
+    >>> store_list(book)
+    [9]
+    >>> store_find(book, 9) == rig + bytes.fromhex("0019 00000009")
+    True
 
 The library is the one that the variable KERBCANOPY_LIBRARY names; else the one that stands by this file, as `make install` or, in a
 clone, `make shared` puts it; else the one that the system's loader finds.
@@ -25,10 +37,10 @@ from dataclasses import dataclass
 from typing import Any, Dict, List, NamedTuple, Sequence, Tuple, Union
 
 __all__ = [
-    "DATA_LIMIT", "DESCRIPTOR_LIMIT", "LIBRARY", "MEANINGS", "Bytes", "Difference", "Kind", "Refusal", "Room", "Row", "Stamp", "Value",
-    "check_data", "check_descriptor", "compare", "from_little_endian", "from_little_endian_into", "normal_form",
-    "normal_form_into", "read_record", "read_record_into", "read_value", "stamp_difference", "to_little_endian", "to_little_endian_into",
-    "view",
+    "BOOK_LIMIT", "DATA_LIMIT", "DESCRIPTOR_LIMIT", "LIBRARY", "MEANINGS", "Bytes", "Difference", "Kind", "Refusal", "Room", "Row", "Stamp",
+    "Value", "check_data", "check_descriptor", "compare", "from_little_endian", "from_little_endian_into", "normal_form",
+    "normal_form_into", "read_record", "read_record_into", "read_value", "stamp_difference", "store_add", "store_check", "store_find",
+    "store_list", "to_little_endian", "to_little_endian_into", "view",
 ]
 
 Bytes = Union[bytes, bytearray, memoryview]
@@ -38,6 +50,8 @@ Room = Union[bytearray, memoryview]
 DESCRIPTOR_LIMIT = 4_096
 #: Longer data is refused with 20.
 DATA_LIMIT = 65_536
+#: A longer blank book is refused with 63.
+BOOK_LIMIT = 65_536
 
 #: What each number of a refusal means.
 MEANINGS: Dict[int, str] = {
@@ -68,6 +82,11 @@ MEANINGS: Dict[int, str] = {
     43: "the writer has several members of this name",
     44: "the writer's member of this name is of another type",
     50: "the output is too small",
+    60: "the identifier is already in the book",
+    61: "the book has no free entry",
+    62: "the book has no room for the body",
+    63: "the book is not well formed",
+    64: "the book has no record of this identifier",
 }
 
 _INPUTS = {1: "the first or the writer's descriptor", 2: "the second or the reader's descriptor", 3: "the data", 4: "the request"}
@@ -83,7 +102,11 @@ class Refusal(Exception):
     the descriptors in it, for 11. A word's place is its first byte. For 12 the place is the descriptor's size.
 
     For 21 to 23 it is the first byte of the piece at fault, for 25 the first byte left over, for 30 the step, for 40 and 42 to 44 the
-    reader's member, both counted from 0, and for 50 the length needed; else it is 0.
+    reader's member, both counted from 0, and for 50 the length needed.
+
+    For 60 it is the entry that has the identifier, counted from 0, and for 62 the body's length; for 63 it is 0 where the book's length is
+    at fault, the capacity where the contents don't fit or more entries are in use than there are, and else the first bad entry. For all
+    others it is 0.
     """
 
     def __init__(self, number: int, input: int, place: int) -> None:
@@ -263,6 +286,8 @@ _INPUT: Tuple[Any, ...] = (ctypes.c_char_p, ctypes.c_size_t)
 _OUTPUT: Tuple[Any, ...] = (ctypes.c_void_p, ctypes.c_size_t)
 _PATH: Tuple[Any, ...] = (ctypes.c_void_p, ctypes.c_size_t)
 _STAMP: Tuple[Any, ...] = (ctypes.c_int32, ctypes.c_int32, ctypes.c_uint32, ctypes.c_uint32)
+_IDENTIFIER: Tuple[Any, ...] = (ctypes.c_uint32,)
+_PLACES: Tuple[Any, ...] = (ctypes.c_void_p, ctypes.c_size_t)
 
 
 def _entry(name: str, result: Any, *arguments: Tuple[Any, ...]) -> Any:
@@ -282,6 +307,10 @@ _to_little_endian = _entry("kc_to_little_endian", _Answer, _INPUT, _INPUT, _OUTP
 _from_little_endian = _entry("kc_from_little_endian", _Answer, _INPUT, _INPUT, _OUTPUT)
 _read_record = _entry("kc_read_record", _Answer, _INPUT, _INPUT, _INPUT, _OUTPUT)
 _stamp_difference = _entry("kc_stamp_difference", _Difference, _STAMP, _STAMP)
+_store_check = _entry("kc_store_check", _Answer, _INPUT)
+_store_add = _entry("kc_store_add", _Answer, _OUTPUT, _INPUT, _INPUT)
+_store_find = _entry("kc_store_find", _Part, _INPUT, _IDENTIFIER)
+_store_list = _entry("kc_store_list", _Answer, _INPUT, _PLACES)
 
 
 def _lent(what: Bytes) -> bytes:
@@ -301,12 +330,23 @@ def _accepted(answer: Any) -> int:
     return int(answer.place)
 
 
-def _lend(entry: Any, lent: Sequence[bytes], out: Room) -> Any:
-    """The answer, `out` being lent for the result; an empty one is lent as no bytes of another."""
+def _buffer(out: Room) -> Tuple[Any, int]:
+    """What `out` is lent as, for as long as it is kept, and its length; an empty one is lent as no bytes of another."""
     with memoryview(out) as room:
         length = room.nbytes
-    buffer: Any = (ctypes.c_ubyte * length).from_buffer(out) if length else ctypes.create_string_buffer(1)
+    return (ctypes.c_ubyte * length).from_buffer(out) if length else ctypes.create_string_buffer(1), length
+
+
+def _lend(entry: Any, lent: Sequence[bytes], out: Room) -> Any:
+    """The answer, `out` being lent for the result."""
+    buffer, length = _buffer(out)
     return entry(*_inputs(*lent), ctypes.addressof(buffer), length)
+
+
+def _lend_book(store: Room, lent: Sequence[bytes]) -> Any:
+    """The answer, `store` being lent for the record to be added to it."""
+    buffer, length = _buffer(store)
+    return _store_add(ctypes.addressof(buffer), length, *_inputs(*lent))
 
 
 def _into(entry: Any, lent: Sequence[bytes], out: Room) -> int:
@@ -470,3 +510,50 @@ def stamp_difference(first: Stamp, second: Stamp) -> Difference:
     given = _stamp_difference(*_halves(first), *_halves(second))
     _accepted(given.answer)
     return Difference(given.seconds, given.fraction)
+
+
+def store_check(store: Bytes) -> None:
+    """Reads any bytes as a blank book; what is not refused is one.
+
+    Refused: 63 with input 4. Its place is 0 for under 4 or over 65,536 bytes; the capacity where the contents don't fit or more entries
+    are in use than there are; else the first bad entry, counted from 0.
+    """
+    _accepted(_store_check(*_inputs(_lent(store))))
+
+
+def store_add(store: Room, descriptor: Bytes, data: Bytes) -> None:
+    """Adds a record to a blank book: its body behind the last one, its entry behind the last in use, and one to the count. Nothing else
+    of `store` changes, which is a bytearray or the like, and nothing at all after a refusal. The record may be a part of the book: it is
+    copied first.
+
+    Refused: 63 as in `store_check`; 1 to 12 with input 1, 20 to 23 or 25 with input 3; 41 with input 1 where the record is no cluster; 42
+    to 44 with input 2 where its member "blank" is missing, doubled or no unsigned number of 32 bits; then, with input 4, 60 where the
+    identifier is there already, 61 where no entry is free, 62 where the body doesn't fit.
+    """
+    _accepted(_lend_book(store, [_lent(descriptor), _lent(data)]))
+
+
+def store_find(store: Bytes, identifier: int) -> memoryview:
+    """The body of the record with this identifier: its descriptor, then its data. The part is of the bytes lent, or of a copy where they
+    were not `bytes`.
+
+    Refused: 63 as in `store_check`, 64 with input 4 where the book has no such record. An identifier that is no unsigned number of 32 bits
+    is an OverflowError.
+    """
+    if not 0 <= identifier < 1 << 32:
+        raise OverflowError(f"the identifier {identifier} doesn't fit 32 unsigned bits")
+    lent = _lent(store)
+    part = _store_find(*_inputs(lent), identifier)
+    _accepted(part.answer)
+    return memoryview(lent)[part.start:part.start + part.length]
+
+
+def store_list(store: Bytes) -> List[int]:
+    """The identifiers of a blank book, in the order of its entries.
+
+    Refused: 63 as in `store_check`.
+    """
+    lent = _lent(store)
+    # As many as a book of this length can have, and one more, so that the pointer is never NULL.
+    places = (ctypes.c_uint32 * (min(len(lent), BOOK_LIMIT) // 16 + 1))()
+    return list(places[:_accepted(_store_list(*_inputs(lent), places, len(places)))])

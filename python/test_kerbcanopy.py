@@ -107,6 +107,39 @@ RECORDS: Dict[int, Tuple[bytes, bytes, bytes, int, int]] = {
 }
 
 
+#: The shortest rig that has a blank's identifier, and others where it is signed, missing or doubled.
+BLANK = raw("0010 0050 0001 000A 0007 0562 6C61 6E6B")
+SIGNED = raw("0010 0050 0001 000A 0003 0562 6C61 6E6B")
+MISSING = raw("0010 0050 0001 000A 0007 0562 6C61 6E63")
+DOUBLED = cluster(BLANK[6:], BLANK[6:])
+
+
+def blank(identifier: int) -> bytes:
+    """The data of the shortest rig."""
+    return identifier.to_bytes(4, "big")
+
+
+def book(capacity: int, *identifiers: int, free: int = 0) -> bytes:
+    """A blank book with records of the shortest rig in it; what is free is not zero."""
+    entries, bodies = b"", b""
+    start = 4 + 16 * capacity
+    for identifier in identifiers:
+        entries += b"".join(blank(number) for number in (identifier, start + len(bodies), len(BLANK), 4))
+        bodies += BLANK + blank(identifier)
+    head = capacity.to_bytes(2, "big") + len(identifiers).to_bytes(2, "big")
+    return head + entries + bytes(16 * (capacity - len(identifiers))) + bodies + b"\xA5" * free
+
+
+#: For each number that only a book's questions have: the question, what it is lent, and the place.
+BOOKS: Dict[int, Tuple[Callable[..., Any], Tuple[Any, ...], int]] = {
+    60: (kerbcanopy.store_add, (bytearray(book(2, 7, 9)), BLANK, blank(9)), 1),
+    61: (kerbcanopy.store_add, (bytearray(book(2, 7, 9, free=20)), BLANK, blank(8)), 0),
+    62: (kerbcanopy.store_add, (bytearray(book(2, 7, free=19)), BLANK, blank(8)), 20),
+    63: (kerbcanopy.store_check, (book(3, 7, 9, 7),), 2),
+    64: (kerbcanopy.store_find, (book(3, 7, 9), 0), 0),
+}
+
+
 #: Stamps whose difference is refused with 32.
 FAR: List[Tuple[Stamp, Stamp]] = [
     (Stamp(0, 0), Stamp(LEAST, 0)),
@@ -306,8 +339,8 @@ class Refusals(Case):
             self.refused((32, 4, 0), kerbcanopy.stamp_difference, first, second)
 
     def test_every_number_is_met_and_has_its_words(self) -> None:
-        self.assertEqual({*DESCRIPTORS, *DATAS, *RECORDS, 30, 31, 32, 50}, set(kerbcanopy.MEANINGS))
-        self.assertEqual(len(set(kerbcanopy.MEANINGS.values())), 26)
+        self.assertEqual({*DESCRIPTORS, *DATAS, *RECORDS, *BOOKS, 30, 31, 32, 50}, set(kerbcanopy.MEANINGS))
+        self.assertEqual(len(set(kerbcanopy.MEANINGS.values())), 31)
         refusal = self.refused((21, 3, 2), kerbcanopy.check_data, RIG, DATA[:5])
         self.assertEqual(str(refusal), "refused with 21: the data ends inside this piece (input 3, the data; place 2)")
         self.assertEqual(pickle.loads(pickle.dumps(refusal)).args, refusal.args)
@@ -358,6 +391,96 @@ class Outputs(Case):
         for wrong in (bytes(8), memoryview(bytes(8)), memoryview(bytearray(8))[::2], "text", None):
             with self.assertRaises((TypeError, BufferError)):
                 kerbcanopy.normal_form_into(WORD, wrong)  # type: ignore[arg-type]
+
+
+class Books(Case):
+    def test_records_are_added_one_behind_the_other(self) -> None:
+        for free in (0, 1, 30):
+            store = bytearray(book(3, free=60 + free))
+            for count, identifier in enumerate((7, 0, (1 << 32) - 1), start=1):
+                kerbcanopy.store_add(store, BLANK, blank(identifier))
+                self.assertEqual(store, book(3, *(7, 0, (1 << 32) - 1)[:count], free=20 * (3 - count) + free))
+
+    def test_a_book_is_asked(self) -> None:
+        whole = book(3, 7, 0, free=5)
+        for kind in (bytes, bytearray, memoryview):
+            store = kind(whole)
+            kerbcanopy.store_check(store)
+            self.assertEqual(kerbcanopy.store_list(store), [7, 0])
+            self.assertEqual(kerbcanopy.store_find(store, 0), BLANK + blank(0))
+        self.assertIs(kerbcanopy.store_find(whole, 7).obj, whole)
+        self.assertEqual(kerbcanopy.store_list(book(0)), [])
+        self.assertEqual(kerbcanopy.store_list(book(4095)), [])
+        self.assertEqual(kerbcanopy.store_list(book(1820, *range(1820), free=12)), list(range(1820)))
+
+    def test_what_is_found_can_be_read(self) -> None:
+        store = bytearray(book(1, free=40))
+        rig = cluster(RIG[6:12], BLANK[6:])
+        kerbcanopy.store_add(store, rig, raw("0019") + blank(9))
+        body = kerbcanopy.store_find(store, 9)
+        size = int.from_bytes(body[:2], "big")
+        self.assertEqual(kerbcanopy.read_record(body[:size], BLANK, body[size:]), blank(9))
+
+    def test_of_books(self) -> None:
+        for number, (call, lent, place) in BOOKS.items():
+            before = bytes(lent[0])
+            self.refused((number, 4, place), call, *lent)
+            self.assertEqual(lent[0], before)
+        for store, place in ((bytes(3), 0), (bytes(65_537), 0), (book(2)[:35], 2), (raw("0001 0002") + bytes(16), 1), (book(1, 7)[:-1], 0)):
+            self.refused((63, 4, place), kerbcanopy.store_check, store)
+            self.refused((63, 4, place), kerbcanopy.store_find, store, 7)
+            self.refused((63, 4, place), kerbcanopy.store_list, store)
+            kept = bytearray(store)
+            self.refused((63, 4, place), kerbcanopy.store_add, kept, b"", b"")
+            self.assertEqual(kept, store)
+
+    def test_of_a_record_s_own(self) -> None:
+        cases: List[Tuple[bytes, bytes, Tuple[int, int, int]]] = [
+            (b"", b"", (2, 1, 0)),
+            (BLANK, bytes(3), (21, 3, 0)),
+            (WORD, bytes(4), (41, 1, 0)),
+            (MISSING, bytes(4), (42, 2, 0)),
+            (DOUBLED, bytes(8), (43, 2, 0)),
+            (SIGNED, bytes(4), (44, 2, 0)),
+        ]
+        for whole in (book(2, 7, free=40), book(1, 0), book(0)):
+            for descriptor, data, expected in cases:
+                store = bytearray(whole)
+                self.refused(expected, kerbcanopy.store_add, store, descriptor, data)
+                self.assertEqual(store, whole)
+
+    def test_an_identifier_of_more_than_32_bits(self) -> None:
+        for wrong in (-1, 1 << 32, 7 + (1 << 32)):
+            with self.assertRaises(OverflowError):
+                kerbcanopy.store_find(book(1, 7), wrong)
+
+    def test_what_stands_around_a_book_is_kept(self) -> None:
+        around = bytearray(b"\xA5" * 16 + book(1, free=20) + b"\xA5" * 16)
+        kerbcanopy.store_add(memoryview(around)[16:-16], BLANK, blank(9))
+        self.assertEqual(around, b"\xA5" * 16 + book(1, 9) + b"\xA5" * 16)
+
+    def test_a_record_may_be_a_part_of_its_book(self) -> None:
+        store = bytearray(book(3, 7, free=20))
+        with memoryview(store) as whole:
+            self.refused((60, 4, 0), kerbcanopy.store_add, store, whole[52:68], whole[68:72])
+        store[68 + 4:] = BLANK + blank(9)
+        with memoryview(store) as whole:
+            kerbcanopy.store_add(store, whole[72:88], whole[88:])
+        self.assertEqual(store, book(3, 7, 9))
+
+    def test_a_book_is_free_again_after_a_refusal(self) -> None:
+        store = bytearray(book(1))
+        try:
+            kerbcanopy.store_add(store, BLANK, blank(9))
+        except Refusal as refusal:
+            store.extend(bytes(refusal.place))
+        kerbcanopy.store_add(store, BLANK, blank(9))
+        self.assertEqual(store, book(1, 9))
+
+    def test_what_can_t_be_written_is_no_book_to_add_to(self) -> None:
+        for wrong in (book(1, free=20), memoryview(book(1, free=20)), memoryview(bytearray(80))[::2], "text", None):
+            with self.assertRaises((TypeError, BufferError)):
+                kerbcanopy.store_add(wrong, BLANK, blank(9))  # type: ignore[arg-type]
 
 
 if __name__ == "__main__":

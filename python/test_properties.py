@@ -1,5 +1,6 @@
-"""Demands 2 and 3 over generated descriptors and data, and the difference of generated time stamps: trees and values are made and encoded
-by described.py, which knows the rules and nothing of the library. Run as test_kerbcanopy.py says.
+"""Demands 2 and 3 over generated descriptors and data, the difference of generated time stamps, and blank books of generated records:
+trees, values and books are made and encoded by described.py, which knows the rules and nothing of the library. Run as
+test_kerbcanopy.py says.
 """
 
 from __future__ import annotations
@@ -7,7 +8,7 @@ from __future__ import annotations
 import struct
 import unittest
 from dataclasses import replace
-from typing import Any, Callable, List, Tuple
+from typing import Any, Callable, List, Optional, Tuple
 
 import described
 from described import CLUSTER, Type, flattened
@@ -261,6 +262,96 @@ class Stamps(unittest.TestCase):
         high, low, *halves = (kerbcanopy.read_value(descriptor, data, (0, half)).value for half in range(4))
         self.assertEqual((int(high) << 32) + int(low) % (1 << 32), stamp.seconds)
         self.assertEqual((int(halves[0]) << 32) + int(halves[1]), stamp.fraction)
+
+
+def ill_formed(store: bytes) -> Optional[int]:
+    """The place at which a book is refused with 63, or nothing where it is well formed."""
+    if not 4 <= len(store) <= 65_536:
+        return 0
+    capacity, count = struct.unpack_from(">HH", store)
+    end = 4 + 16 * capacity
+    if end > len(store) or count > capacity:
+        return int(capacity)
+    earlier = set()
+    for number in range(count):
+        identifier, start, *lengths = struct.unpack_from(">4I", store, 4 + 16 * number)
+        middle, after = start + lengths[0], start + sum(lengths)
+        if start != end or after > len(store) or identifier in earlier:
+            return number
+        try:
+            read = kerbcanopy.read_record(store[start:middle], described.SHAPE, store[middle:after])
+        except kerbcanopy.Refusal:
+            return number
+        if int.from_bytes(read, "big") != identifier:
+            return number
+        earlier.add(identifier)
+        end = after
+    unused = (number for number in range(count, capacity) if any(store[4 + 16 * number:20 + 16 * number]))
+    return next(unused, None)
+
+
+Kept = Tuple[int, List[described.Record], bytes]
+
+
+@st.composite
+def books(draw: Any) -> Kept:
+    """A capacity, records with distinct identifiers for some of the entries, and what is free."""
+    records = draw(st.lists(described.blanks(), max_size=4, unique_by=lambda record: record[0]))
+    capacity = len(records) + draw(st.sampled_from([0, 0, 1, 3]))
+    return capacity, records, draw(st.binary(max_size=60))
+
+
+class Books(unittest.TestCase):
+    @given(books(), st.lists(described.blanks(), min_size=1, max_size=4))
+    def test_records_are_added_while_there_is_room(self, kept: Kept, more: List[described.Record]) -> None:
+        capacity, records, free = kept
+        store = bytearray(described.book(capacity, records, free))
+        for record in more:
+            identifier, descriptor, data = record
+            length = len(descriptor) + len(data)
+            known = [one[0] for one in records]
+            try:
+                kerbcanopy.store_add(store, descriptor, data)
+            except kerbcanopy.Refusal as refusal:
+                expected = (60, 4, known.index(identifier)) if identifier in known else (62, 4, length)
+                full = identifier not in known and len(records) == capacity
+                self.assertEqual(refusal.args, (61, 4, 0) if full else expected)
+                self.assertTrue(identifier in known or full or length > len(free))
+            else:
+                records, free = [*records, record], free[length:]
+            self.assertEqual(store, described.book(capacity, records, free))
+
+    @given(books(), described.identifiers)
+    def test_every_record_is_found_and_listed(self, kept: Kept, other: int) -> None:
+        capacity, records, free = kept
+        store = described.book(capacity, records, free)
+        kerbcanopy.store_check(store)
+        self.assertEqual(kerbcanopy.store_list(store), [record[0] for record in records])
+        for identifier, descriptor, data in records:
+            self.assertEqual(kerbcanopy.store_find(store, identifier), descriptor + data)
+        if other not in [record[0] for record in records]:
+            with self.assertRaises(kerbcanopy.Refusal) as caught:
+                kerbcanopy.store_find(store, other)
+            self.assertEqual(caught.exception.args, (64, 4, 0))
+
+    @settings(max_examples=400)
+    @given(damaged(books().map(lambda kept: described.book(*kept))) | st.binary(max_size=40))
+    def test_a_damaged_book_is_refused_at_its_first_fault(self, store: bytes) -> None:
+        place = ill_formed(store)
+        questions: List[Tuple[Callable[..., Any], Tuple[Any, ...]]] = [
+            (kerbcanopy.store_check, (store,)),
+            (kerbcanopy.store_list, (store,)),
+            (kerbcanopy.store_find, (store, 0)),
+            (kerbcanopy.store_add, (bytearray(store), b"", b"")),
+        ]
+        for call, lent in questions:
+            try:
+                call(*lent)
+            except kerbcanopy.Refusal as refusal:
+                self.assertEqual(refusal.number == 63, place is not None)
+                self.assertEqual(refusal.place if place is not None else None, place)
+            else:
+                self.assertIsNone(place)
 
 
 if __name__ == "__main__":

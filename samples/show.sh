@@ -1,6 +1,6 @@
 #!/bin/sh
 # What `make run` shows: a record read by name, the same record with its members moved, a damaged one refused with its byte marked,
-# time stamps with the time between them, and a Boolean whose byte is neither 00 nor 01.
+# time stamps with the time between them, a Boolean whose byte is neither 00 nor 01, and a blank book.
 # It runs the command kerbcanopy that stands on the path, from the repository's root.
 set -u
 
@@ -42,3 +42,12 @@ run difference samples/coat.hex samples/data/coat.hex end start
 say "A rig that sends FF for true. It is true, and a reader gets the byte as it came:"
 run dump samples/lamp.hex samples/data/lamp.hex
 run read samples/lamp.hex samples/reader-lit.hex samples/data/lamp.hex
+
+say "A book of records, in which no blank is filed over another:"
+rm -f target/run.book
+run book new target/run.book --capacity 4 --bytes 160
+run book add target/run.book samples/plating.hex samples/data/plating.hex
+run book add target/run.book samples/plating.hex samples/data/plating-fourteen.hex
+run book add target/run.book samples/plating.hex samples/data/plating.hex
+run book list target/run.book
+rm -f target/run.book

@@ -1,9 +1,9 @@
 /*
  * The header against the figures of layout.def, against the documents 01 and 02 and against the library: the layout of every struct,
- * the version, each named constant by an answer that has it, and a Boolean of each byte. Builds as C and as C++; run from the
- * repository's root.
+ * the version, each named constant by an answer that has it, a Boolean of each byte, and what is left of a book. Builds as C and as C++;
+ * run from the repository's root.
  */
-#include "cases.h"
+#include "books.h"
 
 #ifdef __cplusplus
 #define HOLDS(fact, text) static_assert(fact, text)
@@ -51,15 +51,16 @@ static const constant constants[] = {
     IS(KC_REFUSED_AFTER_TOP, 12), IS(KC_REFUSED_DATA_LENGTH, 20), IS(KC_REFUSED_DATA_END, 21), IS(KC_REFUSED_LENGTH, 22),
     IS(KC_REFUSED_ENUMERATION, 23), IS(KC_REFUSED_LEFT_OVER, 25), IS(KC_REFUSED_STEP, 30),
     IS(KC_REFUSED_NO_NUMBER, 31), IS(KC_REFUSED_DIFFERENCE, 32), IS(KC_REFUSED_READER, 40), IS(KC_REFUSED_WRITER, 41),
-    IS(KC_REFUSED_MISSING, 42), IS(KC_REFUSED_DOUBLED, 43), IS(KC_REFUSED_TYPE, 44), IS(KC_REFUSED_ROOM, 50), IS(KC_INPUT_NONE, 0),
+    IS(KC_REFUSED_MISSING, 42), IS(KC_REFUSED_DOUBLED, 43), IS(KC_REFUSED_TYPE, 44), IS(KC_REFUSED_ROOM, 50), IS(KC_REFUSED_TAKEN, 60),
+    IS(KC_REFUSED_NO_ENTRY, 61), IS(KC_REFUSED_NO_SPACE, 62), IS(KC_REFUSED_BOOK, 63), IS(KC_REFUSED_NOT_FOUND, 64), IS(KC_INPUT_NONE, 0),
     IS(KC_INPUT_FIRST, 1), IS(KC_INPUT_WRITER, 1), IS(KC_INPUT_SECOND, 2), IS(KC_INPUT_READER, 2), IS(KC_INPUT_DATA, 3),
     IS(KC_INPUT_REQUEST, 4), IS(KC_KIND_NONE, 0), IS(KC_KIND_UNSIGNED, 1), IS(KC_KIND_SIGNED, 2), IS(KC_KIND_SINGLE, 3),
     IS(KC_KIND_DOUBLE, 4), IS(KC_KIND_FLAG, 5), IS(KC_MAX_DESCRIPTOR, 4096), IS(KC_MAX_ROWS, 256), IS(KC_MAX_DEPTH, 8),
-    IS(KC_MAX_DIMENSIONS, 4), IS(KC_MAX_UNIT_PAIRS, 9), IS(KC_MAX_BASE_INDEX, 8), IS(KC_MAX_DATA, 65536),
+    IS(KC_MAX_DIMENSIONS, 4), IS(KC_MAX_UNIT_PAIRS, 9), IS(KC_MAX_BASE_INDEX, 8), IS(KC_MAX_DATA, 65536), IS(KC_MAX_BOOK, 65536),
     IS(KC_MAX_LENGTH, 2147483647), IS(KC_ANSWER_NUMBERS, 3), IS(KC_ROW_NUMBERS, 7), IS(KC_TABLE_NUMBERS, 1792),
 };
 
-static buffer first, second, data;
+static buffer first, second, data, book;
 
 static void test_layout(void)
 {
@@ -105,6 +106,70 @@ static void test_differences(void)
         uint32_t input = c->number == KC_ACCEPTED ? KC_INPUT_NONE : KC_INPUT_REQUEST;
         report(d.answer.number == c->number && d.answer.input == input && d.answer.place == 0, "answer", c->what);
         report(d.seconds == c->seconds && d.fraction == c->fraction, "difference", c->what);
+    }
+}
+
+/* Whether `book` has the record behind its last body, its entry behind the last in use, and one entry more in use than before. */
+static bool has_added(const buffer *before)
+{
+    const unsigned capacity = before->bytes[1], count = before->bytes[3];
+    const size_t start = 4 + 16 * capacity + 20 * count, entry = 4 + 16 * count;
+    const uint8_t words[] = { 0, 0, (uint8_t)(start >> 8), (uint8_t)start, 0, 0, 0, (uint8_t)first.length, 0, 0, 0, (uint8_t)data.length };
+    buffer wanted = *before;
+    wanted.bytes[3]++;
+    memcpy(wanted.bytes + entry, data.bytes, 4);
+    memcpy(wanted.bytes + entry + 4, words, sizeof words);
+    memcpy(wanted.bytes + start, first.bytes, first.length);
+    memcpy(wanted.bytes + start + first.length, data.bytes, data.length);
+    return memcmp(book.bytes, wanted.bytes, book.length) == 0;
+}
+
+/* Whether `identifiers` has those of the entries in front and what it had behind them. */
+static bool has_listed(const uint32_t identifiers[BOOK_PLACES], size_t count)
+{
+    bool good = true;
+    for (size_t i = 0; i < BOOK_PLACES; i++) {
+        const uint32_t wanted = i < count ? book.bytes[4 + 16 * i + 3] : 77;
+        good = good && identifiers[i] == wanted;
+    }
+    return good;
+}
+
+/* The book's question of a case, and whether it leaves what it should. */
+static kc_answer ask_book(const book_case *c, bool *good)
+{
+    uint32_t identifiers[BOOK_PLACES] = { 77, 77, 77, 77 };
+    static buffer before;
+    before = book;
+    if (c->asks == STORE_CHECK) {
+        return kc_store_check(book.bytes, book.length);
+    }
+    if (c->asks == STORE_ADD) {
+        kc_answer a = kc_store_add(book.bytes, book.length, first.bytes, first.length, data.bytes, data.length);
+        *good = a.number == KC_ACCEPTED ? has_added(&before) : memcmp(book.bytes, before.bytes, book.length) == 0;
+        return a;
+    }
+    if (c->asks == STORE_FIND) {
+        kc_part p = kc_store_find(book.bytes, book.length, c->identifier);
+        *good = p.start == c->start && p.length == c->length;
+        return p.answer;
+    }
+    kc_answer a = kc_store_list(book.bytes, book.length, identifiers, c->places);
+    *good = has_listed(identifiers, a.number == KC_ACCEPTED ? a.place : 0);
+    return a;
+}
+
+static void test_books(void)
+{
+    for (size_t i = 0; i < BOOK_CASES; i++) {
+        const book_case *c = &book_cases[i];
+        bool good = true;
+        fill(&book, c->book);
+        fill(&first, c->descriptor);
+        fill(&data, c->data);
+        kc_answer a = ask_book(c, &good);
+        report(a.number == c->number && a.input == c->input && a.place == c->place, "answer about a book", c->what);
+        report(good, "what is left of a book", c->what);
     }
 }
 
@@ -231,6 +296,12 @@ static uint32_t text_of(uint32_t length)
     return kc_check_data(string, sizeof string, word, sizeof word).number;
 }
 
+static uint32_t book_of(size_t length)
+{
+    memset(book.bytes, 0, sizeof book.bytes);
+    return kc_store_check(book.bytes, length).number;
+}
+
 static uint32_t of_base(unsigned base)
 {
     const uint8_t quantity[] = { 0, 10, 0, KC_CODE_QUANTITY_SINGLE, 0, 1, 0, (uint8_t)base, 0, 1 };
@@ -245,6 +316,7 @@ static void test_limits(void)
                && of_length(KC_MAX_DESCRIPTOR + 1, 1) == KC_REFUSED_DESCRIPTOR_LENGTH, "limit", "descriptor");
     report(of_length(4, KC_MAX_DATA) == KC_REFUSED_LEFT_OVER
                && of_length(4, KC_MAX_DATA + 1) == KC_REFUSED_DATA_LENGTH, "limit", "data");
+    report(book_of(KC_MAX_BOOK) == KC_ACCEPTED && book_of(KC_MAX_BOOK + 1) == KC_REFUSED_BOOK, "limit", "book");
     report(nested(KC_MAX_DEPTH) == KC_ACCEPTED && nested(KC_MAX_DEPTH + 1) == KC_REFUSED_DEPTH, "limit", "depth");
     report(counted(KC_CODE_CLUSTER, KC_MAX_ROWS - 1, "0004 0003", "") == KC_ACCEPTED
                && counted(KC_CODE_CLUSTER, KC_MAX_ROWS, "0004 0003", "") == KC_REFUSED_ROWS, "limit", "rows");
@@ -280,6 +352,7 @@ int main(void)
     test_constants();
     test_answers();
     test_differences();
+    test_books();
     test_codes();
     test_kind("0004 0006", "FFFE", KC_KIND_UNSIGNED, 0xFFFE);
     test_kind("0004 0002", "FFFE", KC_KIND_SIGNED, UINT64_MAX - 1);

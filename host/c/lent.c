@@ -2,9 +2,9 @@
  * The entries that fill lent numbers against those that return a struct, and NULL with length 0 against an empty array that is not NULL:
  * for every question, and for every array that it takes. Builds as C and as C++.
  */
-#include "cases.h"
+#include "books.h"
 
-enum { FIRST = 1, SECOND = 2, DATA = 4, PATH = 8, OUT = 16, PAINT = 0xA5 };
+enum { FIRST = 1, SECOND = 2, DATA = 4, PATH = 8, OUT = 16, BOOK = 32, PLACES = 64, ARRAYS = 7, PAINT = 0xA5 };
 
 typedef struct {
     const uint8_t *first, *second, *data;
@@ -12,20 +12,39 @@ typedef struct {
     size_t first_len, second_len, data_len, path_len, out_len;
     bool out_null;
     const stamp_case *stamps;
+    const uint8_t *book;
+    size_t book_len, places;
+    bool places_null;
+    uint32_t identifier;
 } question;
 
 /* What a question leaves: each number and the output between guards, all of it painted before. It has no padding. */
 typedef struct {
     uint64_t guard0[2], start, guard1[2], length, guard2[2], bits, guard3[2], fraction, guard4[2];
     int64_t seconds, guard5[2];
-    uint32_t guard6[3], answer[KC_ANSWER_NUMBERS], guard7[3], kind, guard8[2];
-    uint16_t guard9[8], table[KC_TABLE_NUMBERS], guard10[8];
-    uint8_t guard11[15], equal, guard12[16], out[CASE_ROOM], guard13[16];
+    uint32_t guard6[3], answer[KC_ANSWER_NUMBERS], guard7[3], kind, guard8[2], identifiers[BOOK_PLACES], guard9[4];
+    uint16_t guard10[8], table[KC_TABLE_NUMBERS], guard11[8];
+    uint8_t guard12[15], equal, guard13[16], out[CASE_ROOM], guard14[16], book[CASE_BYTES], guard15[16];
 } left;
 
 static uint8_t *out_of(const question *q, left *to)
 {
     return q->out_null ? NULL : to->out;
+}
+
+/* The book of a question, where a record can be added to it. */
+static uint8_t *book_of(const question *q, left *to)
+{
+    if (q->book == NULL) {
+        return NULL;
+    }
+    memcpy(to->book, q->book, q->book_len);
+    return to->book;
+}
+
+static uint32_t *places_of(const question *q, left *to)
+{
+    return q->places_null ? NULL : to->identifiers;
 }
 
 static void set_answer(left *to, kc_answer a)
@@ -157,6 +176,49 @@ static void stamp_difference_into(const question *q, left *to)
                              to->answer, &to->seconds, &to->fraction);
 }
 
+static void store_check(const question *q, left *to)
+{
+    set_answer(to, kc_store_check(q->book, q->book_len));
+}
+
+static void store_check_into(const question *q, left *to)
+{
+    kc_store_check_into(q->book, q->book_len, to->answer);
+}
+
+static void store_add(const question *q, left *to)
+{
+    set_answer(to, kc_store_add(book_of(q, to), q->book_len, q->first, q->first_len, q->data, q->data_len));
+}
+
+static void store_add_into(const question *q, left *to)
+{
+    kc_store_add_into(book_of(q, to), q->book_len, q->first, q->first_len, q->data, q->data_len, to->answer);
+}
+
+static void store_find(const question *q, left *to)
+{
+    kc_part p = kc_store_find(q->book, q->book_len, q->identifier);
+    set_answer(to, p.answer);
+    to->start = p.start;
+    to->length = p.length;
+}
+
+static void store_find_into(const question *q, left *to)
+{
+    kc_store_find_into(q->book, q->book_len, q->identifier, to->answer, &to->start, &to->length);
+}
+
+static void store_list(const question *q, left *to)
+{
+    set_answer(to, kc_store_list(q->book, q->book_len, places_of(q, to), q->places));
+}
+
+static void store_list_into(const question *q, left *to)
+{
+    kc_store_list_into(q->book, q->book_len, places_of(q, to), q->places, to->answer);
+}
+
 typedef void ask(const question *q, left *to);
 
 typedef struct { const char *name; ask *by_struct, *by_numbers; int takes; } entry;
@@ -173,18 +235,61 @@ static const entry entries[] = {
     { "kc_read_record", read_record, read_record_into, FIRST | SECOND | DATA | OUT },
 };
 
-enum { ENTRIES = sizeof entries / sizeof entries[0] };
+static const entry book_entries[] = {
+    { "kc_store_check", store_check, store_check_into, BOOK },
+    { "kc_store_add", store_add, store_add_into, BOOK | FIRST | DATA },
+    { "kc_store_find", store_find, store_find_into, BOOK },
+    { "kc_store_list", store_list, store_list_into, BOOK | PLACES },
+};
 
-static buffer first, second, data;
+static buffer first, second, data, book;
 
-static question question_of(const one_case *c)
+static question question_of(size_t number)
 {
+    const one_case *c = &cases[number];
     fill(&first, c->first);
     fill(&second, c->reader);
     fill(&data, c->data);
-    question q = { first.bytes, second.bytes, data.bytes, c->path, first.length, second.length, data.length, c->path_len, c->room, false, NULL };
+    question q = { first.bytes, second.bytes, data.bytes, c->path, first.length, second.length, data.length, c->path_len, c->room, false,
+                   NULL, book.bytes, 0, 0, false, 0 };
     return q;
 }
+
+static question book_question(size_t number)
+{
+    const book_case *c = &book_cases[number];
+    fill(&first, c->descriptor);
+    fill(&data, c->data);
+    fill(&book, c->book);
+    question q = { first.bytes, second.bytes, data.bytes, NULL, first.length, 0, data.length, 0, 0, false,
+                   NULL, book.bytes, book.length, c->places, false, c->identifier };
+    return q;
+}
+
+static const char *case_name(size_t number)
+{
+    return cases[number].what;
+}
+
+static const char *book_name(size_t number)
+{
+    return book_cases[number].what;
+}
+
+/* Entries, and the cases that they are asked about. */
+typedef struct {
+    const entry *entries;
+    size_t entry_count, case_count;
+    question (*question_of)(size_t number);
+    const char *(*name_of)(size_t number);
+} subject;
+
+static const subject subjects[] = {
+    { entries, sizeof entries / sizeof entries[0], CASES, question_of, case_name },
+    { book_entries, sizeof book_entries / sizeof book_entries[0], BOOK_CASES, book_question, book_name },
+};
+
+enum { SUBJECTS = sizeof subjects / sizeof subjects[0] };
 
 /* Whether two entries leave the same in painted memory, guards included. */
 static bool same(ask *one, const question *first_asked, ask *other, const question *then_asked)
@@ -197,14 +302,15 @@ static bool same(ask *one, const question *first_asked, ask *other, const questi
     return memcmp(&a, &b, sizeof a) == 0;
 }
 
-static void test_lent(void)
+static void test_lent(const subject *s)
 {
-    for (size_t i = 0; i < CASES; i++) {
-        question q = question_of(&cases[i]);
-        for (size_t e = 0; e < ENTRIES; e++) {
+    for (size_t i = 0; i < s->case_count; i++) {
+        question q = s->question_of(i);
+        for (size_t e = 0; e < s->entry_count; e++) {
+            const entry *asked = &s->entries[e];
             char what[80];
-            snprintf(what, sizeof what, "%s_into as %s", entries[e].name, entries[e].name);
-            report(same(entries[e].by_struct, &q, entries[e].by_numbers, &q), what, cases[i].what);
+            snprintf(what, sizeof what, "%s_into as %s", asked->name, asked->name);
+            report(same(asked->by_struct, &q, asked->by_numbers, &q), what, s->name_of(i));
         }
     }
 }
@@ -212,7 +318,7 @@ static void test_lent(void)
 /* The one question that takes no array. */
 static void test_stamps(void)
 {
-    question q = question_of(&cases[0]);
+    question q = question_of(0);
     for (size_t i = 0; i < STAMP_CASES; i++) {
         q.stamps = &stamp_cases[i];
         report(same(stamp_difference, &q, stamp_difference_into, &q), "kc_stamp_difference_into as kc_stamp_difference", q.stamps->what);
@@ -242,41 +348,53 @@ static question emptied(question q, int which, bool null)
         q.out_null = null;
         q.out_len = 0;
     }
+    if (which & BOOK) {
+        q.book = null ? NULL : q.book;
+        q.book_len = 0;
+    }
+    if (which & PLACES) {
+        q.places_null = null;
+        q.places = 0;
+    }
     return q;
 }
 
 /* Whether NULL for these arrays changes nothing of what either form of an entry leaves, whatever the others are. */
-static bool null_is_empty(const entry *e, int which)
+static bool null_is_empty(const subject *s, const entry *e, int which)
 {
     bool good = true;
-    for (size_t i = 0; i < CASES; i++) {
-        question q = question_of(&cases[i]);
+    for (size_t i = 0; i < s->case_count; i++) {
+        question q = s->question_of(i);
         question empty = emptied(q, which, false), null = emptied(q, which, true);
         good = good && same(e->by_struct, &empty, e->by_struct, &null) && same(e->by_numbers, &empty, e->by_numbers, &null);
     }
     return good;
 }
 
-static void test_null(void)
+static void test_null(const subject *s)
 {
-    static const char *const names[] = { "descriptor", "second descriptor", "data", "path", "output" };
-    for (size_t e = 0; e < ENTRIES; e++) {
+    static const char *const names[ARRAYS] = { "descriptor", "second descriptor", "data", "path", "output", "book", "places" };
+    for (size_t i = 0; i < s->entry_count; i++) {
+        const entry *e = &s->entries[i];
         char what[80];
-        snprintf(what, sizeof what, "NULL with length 0 to %s and %s_into", entries[e].name, entries[e].name);
-        for (int a = 0; a < 5; a++) {
-            if (entries[e].takes & (1 << a)) {
-                report(null_is_empty(&entries[e], 1 << a), what, names[a]);
+        snprintf(what, sizeof what, "NULL with length 0 to %s and %s_into", e->name, e->name);
+        for (int a = 0; a < ARRAYS; a++) {
+            if (e->takes & (1 << a)) {
+                report(null_is_empty(s, e, 1 << a), what, names[a]);
             }
         }
-        report(null_is_empty(&entries[e], entries[e].takes), what, "all of them");
+        report(null_is_empty(s, e, e->takes), what, "all of them");
     }
 }
 
 int main(void)
 {
-    report(sizeof(left) == 17 * 8 + 12 * 4 + (16 + KC_TABLE_NUMBERS) * 2 + 48 + CASE_ROOM, "no padding between the guards", "");
-    test_lent();
+    const size_t bytes = 16 + CASE_ROOM + 16 + CASE_BYTES + 16 + 16;
+    report(sizeof(left) == 17 * 8 + 20 * 4 + (16 + KC_TABLE_NUMBERS) * 2 + bytes, "no padding between the guards", "");
+    for (size_t s = 0; s < SUBJECTS; s++) {
+        test_lent(&subjects[s]);
+        test_null(&subjects[s]);
+    }
     test_stamps();
-    test_null();
     return all_ok ? 0 : 1;
 }

@@ -5,7 +5,8 @@
  * that calls an empty function instead is taken off. The inputs are every nesting of arrays and clusters up to one level too many, with
  * each kind of value innermost and with and without others beside it, and a cluster of many members; each is asked whole, cut at every
  * byte and with every byte changed, in its descriptor and in its data. The difference of time stamps is asked of stamps near and far with
- * each of these. Then the deepest are asked on the smallest stack of a thread, and of the one entry that needs more on a larger one.
+ * each of these. A book has each of these as its record, and is asked to add it: as it is, and in a cluster with a blank's identifier. Then
+ * the deepest are asked on the smallest stack of a thread, and of the entries that need more on a larger one.
  */
 #define _DEFAULT_SOURCE
 #include <kerbcanopy.h>
@@ -30,11 +31,17 @@ enum {
     FROM_LITTLE_ENDIAN,
     READ_RECORD,
     STAMP_DIFFERENCE,
+    STORE_CHECK,
+    STORE_ADD,
+    STORE_FIND,
+    STORE_LIST,
     INTO, /* from here on those that fill lent numbers, in the same order */
     ENTRIES = 2 * INTO,
     NOTHING = ENTRIES, /* the empty function, called as the first are */
     NOTHING_INTO,      /* as the others are */
-    NOTHING_CHECKED    /* and as the first of all is */
+    NOTHING_CHECKED,   /* as the first of all is */
+    NOTHING_BOOK,      /* as those of books are */
+    NOTHING_BOOK_INTO  /* and as those of books that fill lent numbers are */
 };
 
 enum {
@@ -45,7 +52,8 @@ enum {
     MEMBERS = 250,
     STACK = 64 * 1024,
     PAINT = 0xA5,
-    QUESTIONS = 8192
+    QUESTIONS = 8192,
+    NUMBERS = 65       /* one more than the highest number of an answer */
 };
 
 static const char *const names[ENTRIES] = {
@@ -59,6 +67,10 @@ static const char *const names[ENTRIES] = {
     "kc_from_little_endian",
     "kc_read_record",
     "kc_stamp_difference",
+    "kc_store_check",
+    "kc_store_add",
+    "kc_store_find",
+    "kc_store_list",
     "kc_check_descriptor_into",
     "kc_compare_into",
     "kc_normal_form_into",
@@ -69,6 +81,10 @@ static const char *const names[ENTRIES] = {
     "kc_from_little_endian_into",
     "kc_read_record_into",
     "kc_stamp_difference_into",
+    "kc_store_check_into",
+    "kc_store_add_into",
+    "kc_store_find_into",
+    "kc_store_list_into",
 };
 
 typedef struct {
@@ -87,7 +103,7 @@ static uint32_t path[STEPS];
 static uint8_t out[ROOM];
 static question questions[QUESTIONS];
 static size_t question_count;
-static size_t answers[NOTHING_CHECKED + 1][64];
+static size_t answers[NOTHING_BOOK_INTO + 1][NUMBERS];
 
 /* A time stamp: the halves of its seconds, and either half of its fraction. */
 typedef struct {
@@ -105,7 +121,65 @@ static void do_nothing(void) {}
 static void (*volatile nothing)(void) = do_nothing;
 
 static void count(int entry, uint32_t number) {
-    answers[entry][number % 64]++;
+    answers[entry][number % NUMBERS]++;
+}
+
+/* A record, and a book with it or for it; the identifier is 9 where it has one. */
+typedef struct {
+    uint8_t type[4096 + 16], value[4096 + 4], book[16384];
+    size_t type_len, value_len, book_len;
+} kept;
+
+static kept record;
+
+/* Sets the record of a question: what it is lent, as it is or in a cluster behind a blank's identifier. */
+static void set_record(const question *q, bool with_blank) {
+    static const uint8_t blank[] = {0, 0, 0, 0x50, 0, 2, 0, 10, 0, 7, 5, 'b', 'l', 'a', 'n', 'k'}, nine[] = {0, 0, 0, 9};
+    const size_t before = with_blank ? sizeof blank : 0, size = before + q->first_len;
+    record.type_len = size;
+    record.value_len = (with_blank ? sizeof nine : 0) + q->data_len;
+    memcpy(record.type, blank, before);
+    memcpy(record.type + before, first.bytes, q->first_len);
+    memcpy(record.value, nine, record.value_len - q->data_len);
+    memcpy(record.value + record.value_len - q->data_len, data.bytes, q->data_len);
+    if (with_blank) {
+        record.type[0] = (uint8_t)(size >> 8);
+        record.type[1] = (uint8_t)size;
+    }
+}
+
+static void put_number(uint8_t *to, size_t number) {
+    const uint8_t bytes[] = {0, 0, (uint8_t)(number >> 8), (uint8_t)number};
+    memcpy(to, bytes, sizeof bytes);
+}
+
+/* Sets the book: `capacity` entries, of which the first has the record where one is in use, and so many bytes free. */
+static void set_book(unsigned capacity, unsigned used, size_t free) {
+    const size_t contents = 4 + 16 * capacity;
+    memset(record.book, 0, contents);
+    record.book[1] = (uint8_t)capacity;
+    record.book[3] = (uint8_t)used;
+    record.book_len = contents + free;
+    if (used == 0)
+        return;
+    put_number(record.book + 4, 9);
+    put_number(record.book + 8, contents);
+    put_number(record.book + 12, record.type_len);
+    put_number(record.book + 16, record.value_len);
+    memcpy(record.book + contents, record.type, record.type_len);
+    memcpy(record.book + contents + record.type_len, record.value, record.value_len);
+    record.book_len += record.type_len + record.value_len;
+}
+
+/* The book that a record is added to: with no entry, with the same record, with no room, or with an entry and room for it. */
+static void set_book_for(const question *q) {
+    const size_t room = record.type_len + record.value_len;
+    if (q->path_len == 0)
+        set_book(0, 0, room);
+    else if (q->path_len == 1)
+        set_book(2, 1, room);
+    else
+        set_book(2, 0, q->room == 0 ? room - 1 : room);
 }
 
 /*
@@ -198,6 +272,64 @@ static void ask_into(int entry, const question *q) {
     count(entry, answer[0]);
 }
 
+/* The same for a book's entries, with the record as it is and with a blank's identifier. */
+static void ask_book(int entry, const question *q) {
+    static kc_answer answer;
+    static uint32_t identifiers[2];
+    const size_t places = q->room == 0 ? 0 : 2;
+    for (int with_blank = 0; with_blank < 2; with_blank++) {
+        set_record(q, with_blank);
+        set_book(2, 1, 7);
+        switch (entry) {
+        case STORE_CHECK:
+            answer = kc_store_check(record.book, record.book_len);
+            break;
+        case STORE_ADD:
+            set_book_for(q);
+            answer = kc_store_add(record.book, record.book_len, record.type, record.type_len, record.value, record.value_len);
+            break;
+        case STORE_FIND:
+            answer = kc_store_find(record.book, record.book_len, q->path_len == 0 ? 8 : 9).answer;
+            break;
+        case STORE_LIST:
+            answer = kc_store_list(record.book, record.book_len, identifiers, places);
+            break;
+        default:
+            nothing();
+        }
+        count(entry, answer.number);
+    }
+}
+
+/* The same for those that fill lent numbers. */
+static void ask_book_into(int entry, const question *q) {
+    static uint32_t answer[KC_ANSWER_NUMBERS], identifiers[2];
+    static uint64_t start, length;
+    const size_t places = q->room == 0 ? 0 : 2;
+    for (int with_blank = 0; with_blank < 2; with_blank++) {
+        set_record(q, with_blank);
+        set_book(2, 1, 7);
+        switch (entry - INTO) {
+        case STORE_CHECK:
+            kc_store_check_into(record.book, record.book_len, answer);
+            break;
+        case STORE_ADD:
+            set_book_for(q);
+            kc_store_add_into(record.book, record.book_len, record.type, record.type_len, record.value, record.value_len, answer);
+            break;
+        case STORE_FIND:
+            kc_store_find_into(record.book, record.book_len, q->path_len == 0 ? 8 : 9, answer, &start, &length);
+            break;
+        case STORE_LIST:
+            kc_store_list_into(record.book, record.book_len, identifiers, places, answer);
+            break;
+        default:
+            nothing();
+        }
+        count(entry, answer[0]);
+    }
+}
+
 /* The same for the one entry whose struct, in the frame here, is as large as a small stack's quarter. */
 static void ask_checked(int entry, const question *q) {
     static kc_answer answer;
@@ -208,15 +340,17 @@ static void ask_checked(int entry, const question *q) {
     count(entry, answer.number);
 }
 
-/* Which of the three functions asks an entry, or calls the empty function. */
+/* Which of the five functions asks an entry, or calls the empty function. */
 static int asked_by(int entry) {
-    if (entry == CHECK_DESCRIPTOR || entry == NOTHING_CHECKED)
+    if (entry >= NOTHING)
+        return entry - NOTHING;
+    if (entry == CHECK_DESCRIPTOR)
         return 2;
-    return entry >= INTO && entry != NOTHING;
+    return (entry % INTO >= STORE_CHECK ? 3 : 0) + (entry >= INTO);
 }
 
 /* Called through pointers that may change, so that no function's frame becomes part of its caller's. */
-static void (*volatile asking[])(int entry, const question *q) = {ask, ask_into, ask_checked};
+static void (*volatile asking[])(int entry, const question *q) = {ask, ask_into, ask_checked, ask_book, ask_book_into};
 
 typedef struct {
     int entry;
@@ -500,6 +634,7 @@ static bool answered(void) {
     static const unsigned numbers[INTO][16] = {
         {2, 4, 6, 11, 12}, {2, 4, 6, 11, 12}, {6, 12, 50}, {6, 12, 21, 22, 23, 25}, {6, 21, 22, 23, 25, 30},
         {6, 21, 22, 23, 25, 30, 31}, {6, 21, 22, 23, 25, 50}, {6, 21, 22, 23, 25, 50}, {6, 21, 22, 23, 25, 40, 44, 50}, {32},
+        {63}, {6, 21, 22, 23, 25, 41, 42, 60, 61, 62}, {63, 64}, {50, 63},
     };
     bool good = true;
     for (int e = 0; e < ENTRIES; e++) {

@@ -38,20 +38,30 @@ def agree(what, seen, expected):
 
 def usages():
     """Each command of the help with its usage, less the options that every command takes."""
-    names = re.findall(r"^  ([a-z]+) +[a-z]", said(COMMAND, "--help"), re.M)
-    lines = {name: said(COMMAND, name, "--help").splitlines()[0] for name in names}
+    names = re.findall(r"^  ([a-z]+(?: [a-z]+)?) {2,}[a-z]", said(COMMAND, "--help"), re.M)
+    lines = {name: said(COMMAND, *name.split(), "--help").splitlines()[0] for name in names}
     return {name: re.fullmatch(r"usage: kerbcanopy (.*) \[--hex\] \[--json\]", line)[1] for name, line in lines.items()}
+
+
+#: An option in a usage, with the word for its value if it takes one: in brackets where it can be left out.
+OPTION = r"\[(-[^\]]+)\]|(--[a-z]+ [A-Z]+)"
 
 
 def options(usage):
     """The options of a usage, each with the word for its value if it takes one."""
-    return set(re.findall(r"\[(-[^\]]+)\]", usage))
+    return {left_out or needed for left_out, needed in re.findall(OPTION, usage)}
 
 
 def files(usage):
-    """The places of the files among the words of a usage; a path is none."""
-    words = re.findall(r"\b[A-Z]+\b(?!\.\.)", re.sub(r"\[-[^\]]+\]", "", usage))
-    return {place for place, word in enumerate(words) if word != "PATH"}
+    """The places of the files among the words of a usage; a path or an identifier is none."""
+    words = re.findall(r"\b[A-Z]+\b(?!\.\.)", re.sub(OPTION, "", usage))
+    return {place for place, word in enumerate(words) if word not in ("PATH", "ID")}
+
+
+def next_words(all_usages, *before):
+    """The words that can follow these at the start of a use."""
+    names = [tuple(name.split()) for name in all_usages]
+    return {name[len(before)] for name in names if name[:len(before)] == before}
 
 
 def section(page, name):
@@ -91,14 +101,17 @@ def completion(shell, all_usages):
     def listed(*words):
         return {name for name in completed(shell, *words) if not name.startswith(".")}
 
-    agree(f"{shell}: the commands", completed(shell, ""), set(all_usages))
+    agree(f"{shell}: the commands", completed(shell, ""), next_words(all_usages))
+    for group in {name.split()[0] for name in all_usages if " " in name}:
+        agree(f"{shell}: the commands of {group}", completed(shell, group, ""), next_words(all_usages, group))
     for name, usage in all_usages.items():
         expected = {option.split()[0] for option in options(usage)} | COMMON
-        agree(f"{shell}: the options of {name}", completed(shell, name, "-"), expected)
-        offered = [listed(name, *["x"] * count, "") for count in range(7)]
+        agree(f"{shell}: the options of {name}", completed(shell, *name.split(), "-"), expected)
+        offered = [listed(*name.split(), *["x"] * count, "") for count in range(7)]
         agree(f"{shell}: the files of {name}", offered, [here if count in files(usage) else set() for count in range(7)])
     agree(f"{shell}: a file behind -o", listed("normal", "x", "-o", ""), here)
     agree(f"{shell}: a number behind --room", completed(shell, "normal", "--room", ""), set())
+    agree(f"{shell}: a number behind --capacity", completed(shell, "book", "new", "--capacity", ""), set())
     agree(f"{shell}: a file behind --", listed("check", "--", ""), here)
     agree(f"{shell}: options first", completed(shell, "-o", "x", "--hex", "read", "-"), {"-o", "--room"} | COMMON)
 
@@ -114,6 +127,9 @@ def refused():
     stamps = bytes.fromhex("00260040 0001FFFFFFFF 001C0054 0006 00160050 0004 00040003 00040003 00040007 00040007")
     far = bytes.fromhex("00000002 7FFFFFFFFFFFFFFF 0000000000000000 FFFFFFFFFFFEAE80 0000000000000000")
     uses[32] = ("difference", stamps, far, "0", "1")
+    asked = {kerbcanopy.store_add: "book add", kerbcanopy.store_check: "book check", kerbcanopy.store_find: "book find"}
+    for number, (call, lent, _) in cases.BOOKS.items():
+        uses[number] = (asked[call], *(str(one) if isinstance(one, int) else bytes(one) for one in lent))
     return uses
 
 
@@ -128,7 +144,7 @@ def meanings():
                     path.write_bytes(one)
                     one = str(path)
                 words.append(one)
-            answer = json.loads(said(COMMAND, command, *words, "--json", status=1))
+            answer = json.loads(said(COMMAND, *command.split(), *words, "--json", status=1))
             seen[answer["number"]] = answer["meaning"]
     agree("the command and the Python module: the refusals", seen, kerbcanopy.MEANINGS)
 

@@ -19,8 +19,8 @@ pub struct Part {
     pub length: usize,
 }
 
-// A refusal gives "an empty part at the front of the data".
-fn no_part(answer: Answer) -> Part
+// A refusal gives "an empty part at the front of the data"; so where a part of a book is asked for.
+pub fn no_part(answer: Answer) -> Part
     ensures { λ r. ⌜ r ≡ noPart (answer .number) (answer .input) (answer .place) ⌝ }
 {
     Part {

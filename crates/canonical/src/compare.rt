@@ -73,7 +73,7 @@ fn same_front(a: &[u8], b: &[u8]) -> usize
 }
 
 // The place of the first byte of a and b, of one length, that is not the same; or their length.
-fn first_difference(a: &[u8], b: &[u8]) -> usize
+pub fn first_difference(a: &[u8], b: &[u8]) -> usize
     requires { ⌜ length (now a) ≡ length (now b) ⌝ }
     ensures { λ r. ⌜ FirstDifference (now (a .entry)) (now (b .entry)) r ⌝ }
 {

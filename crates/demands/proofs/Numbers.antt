@@ -1,5 +1,6 @@
 -- Which numbers each entry answers with, and with which input: those of document 01's table that are its own. So "24 is no longer given"
--- (document 02, CR 2). The public entries are all of them; the header says the same of each.
+-- (document 02, CR 2). The public entries are all but those about books, of which `history` says the same;
+-- the header says it of each.
 -- Rests on the numbers of refusals of a descriptor and of data, and on what a path and a reader's members meet in data that was walked.
 use mathlib.Core.Path.{_≡_, refl, subst}
 use mathlib.Core.Logic.{_≢_}
@@ -53,7 +54,7 @@ pub data OneOf : List Numbers → ℕ → ℕ → Type 0 where
   further : {n : Numbers} {ns : List Numbers} {number input : ℕ} → OneOf ns number input → OneOf (n ∷ ns) number input
 
 -- a number by itself
-only : {n number input : ℕ} {ns : List Numbers} → number ≡ n → OneOf (numbers n n input ∷ ns) number input
+pub only : {n number input : ℕ} {ns : List Numbers} → number ≡ n → OneOf (numbers n n input ∷ ns) number input
 only {n} {number} e = here {low = n} {high = n} {number = number} (rw (e, le-leb n n (omega arith)) refl)
 
 -- an answer is 0 with input 0, or a refusal that is among these
@@ -72,7 +73,7 @@ abbrev pub ofRoom : Numbers
 ofRoom = numbers 50 50 4
 
 -- a refusal of data is among data's numbers
-walk-one : {ns : List Numbers} (o : Order) (t : Tree) (s : List ℕ) (number place : ℕ) → walked o t s ≡ refused number place → OneOf (ofWalk ns) number 3
+pub walk-one : {ns : List Numbers} (o : Order) (t : Tree) (s : List ℕ) (number place : ℕ) → walked o t s ≡ refused number place → OneOf (ofWalk ns) number 3
 walk-one o t s number place e = go (between 20 23 number) refl (refused-of-data s o t number place e)
   where
     go : {ns : List Numbers} (b : Bool) → between 20 23 number ≡ b → (b || eqb number 25) ≡ true → OneOf (ofWalk ns) number 3
@@ -80,7 +81,7 @@ walk-one o t s number place e = go (between 20 23 number) refl (refused-of-data 
     go false h k = further (only (eqb-true number 25 k))
 
 -- an output is filled, or refused with 50
-written-answered : {ns : List Numbers} → OneOf ns 50 4 → (out bytes : List ℕ) → Answered ns (writtenTo out bytes .answer)
+pub written-answered : {ns : List Numbers} → OneOf ns 50 4 → (out bytes : List ℕ) → Answered ns (writtenTo out bytes .answer)
 unfolding writtenTo
 written-answered {ns} room out bytes = go (leb (length bytes) (length out))
   where
@@ -198,7 +199,7 @@ reader-numbers (node c (members k) f m) = refuses-and (names-numbers f [] 0) (λ
 reader-numbers (node c subtype f m) = refusing refl
 
 -- a rig's, whose data was walked, with 41
-writer-numbers : (t : Tree) (s : List ℕ) (q : ℕ) (ts : List Token) → walk big t s 0 ≡ read q ts → Refuses (λ number place. number ≡ 41) (writerMembers t s)
+pub writer-numbers : (t : Tree) (s : List ℕ) (q : ℕ) (ts : List Token) → walk big t s 0 ≡ read q ts → Refuses (λ number place. number ≡ 41) (writerMembers t s)
 unfolding writerFields walk walkFields
 writer-numbers (node c empty f m) s q ts e = refusing refl
 writer-numbers (node c (items xs) f m) s q ts e = refusing refl
@@ -215,7 +216,7 @@ found-numbers j t [] = refusing refl
 found-numbers j t (m ∷ []) = refuses-require (sameTree t (m .type)) 44 j (λ _. refl) (λ _. reading)
 found-numbers j t (m ∷ n ∷ ms) = refusing refl
 
-joined-numbers : (f : Forest) (j : ℕ) (s : List ℕ) (ms : List Member) → Refuses (λ number place. between 42 44 number ≡ true) (joinedBytes j f s ms)
+pub joined-numbers : (f : Forest) (j : ℕ) (s : List ℕ) (ms : List Member) → Refuses (λ number place. between 42 44 number ≡ true) (joinedBytes j f s ms)
 unfolding joinedBytes memberBytes
 joined-numbers nil j s ms = reading
 joined-numbers (cons t f) j s ms =
@@ -261,7 +262,7 @@ lacks [] n = true
 lacks (numbers low high input ∷ ns) n = not (between low high n) && lacks ns n
 
 -- is not answered
-never : {ns : List Numbers} (n : ℕ) → lacks ns (suc n) ≡ true → {a : Answer} → Answered ns a → a .number ≢ suc n
+pub never : {ns : List Numbers} (n : ℕ) → lacks ns (suc n) ≡ true → {a : Answer} → Answered ns a → a .number ≢ suc n
 unfolding lacks
 never n none accepts e = omega arith
 never n none (refuses i) e = out i e none
@@ -270,7 +271,7 @@ never n none (refuses i) e = out i e none
     out (here {low} {high} {number} {ns = ns} h) e k = impossible (subst (λ (b : Bool). (not b && lacks ns (suc n)) ≡ true) (subst (λ (x : ℕ). between low high x ≡ true) e h) k)
     out (further {n = numbers low high input} i) e k = out i e (and-true (not (between low high (suc n))) _ k .1)
 
--- "24 is no longer given": whatever bytes, steps and integers they are lent, no entry answers with it
+-- "24 is no longer given": whatever bytes, steps and integers they are lent, none of these entries answers with it
 pub no-24 : (d r s out path : List ℕ) (o : Order) (a b : ℤ) (c e : ℕ) (f g : ℤ) (h i : ℕ)
     → (descriptorCheck d .answer .number ≢ 24)
     × (comparison d r .answer .number ≢ 24)

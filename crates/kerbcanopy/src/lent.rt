@@ -14,6 +14,8 @@ ghost use Rattle.reading.specs.Values.{readValue, valueKind, valueBits};
 ghost use Rattle.byteorder.specs.Reversal.{toLittleEndian, fromLittleEndian};
 ghost use Rattle.resolution.specs.Record.{resolved};
 ghost use Rattle.timestamp.specs.Difference.{difference};
+ghost use Rattle.store.specs.Check.{bookCheck};
+ghost use Rattle.store.specs.Questions.{found, listed, added};
 ghost use Rattle.layout.specs.Numbers.{answerNumbers, tableNumbers, truth};
 
 // `table` gets the 256 rows one after another, each as its seven numbers.
@@ -182,4 +184,54 @@ pub extern "C" fn kc_stamp_difference_into(
     let whole = difference.seconds;
     *seconds = whole;
     *fraction = difference.fraction;
+}
+
+#[no_mangle]
+pub extern "C" fn kc_store_check_into(store: &[u8], answer: &mut [u32; 3])
+    ensures { λ _. ⌜ now (answer .exit) ≡ answerNumbers (bookCheck (now (store .entry))) ⌝ }
+{
+    let checked = super::book::kc_store_check(store);
+    put_answer(checked, answer);
+}
+
+#[no_mangle]
+pub extern "C" fn kc_store_add_into(
+    store: &mut [u8],
+    descriptor: &[u8],
+    data: &[u8],
+    answer: &mut [u32; 3],
+)
+    ensures answer { λ _. ⌜ now (answer .exit) ≡ answerNumbers (added (now (store .entry)) (now (descriptor .entry)) (now («data» .entry)) .answer) ⌝ }
+    ensures wrote { λ _. ⌜ now (store .exit) ≡ added (now (store .entry)) (now (descriptor .entry)) (now («data» .entry)) .out ⌝ }
+{
+    let added = super::book::kc_store_add(store, descriptor, data);
+    put_answer(added, answer);
+}
+
+// `start` and `length` get where the body starts in the book and how long it is.
+#[no_mangle]
+pub extern "C" fn kc_store_find_into(
+    store: &[u8],
+    identifier: u32,
+    answer: &mut [u32; 3],
+    start: &mut u64,
+    length: &mut u64,
+)
+    ensures answer { λ _. ⌜ now (answer .exit) ≡ answerNumbers (found (now (store .entry)) identifier .answer) ⌝ }
+    ensures start { λ _. ⌜ now (start .exit) ≡ found (now (store .entry)) identifier .start ⌝ }
+    ensures length { λ _. ⌜ now (length .exit) ≡ found (now (store .entry)) identifier .length ⌝ }
+{
+    let body = super::book::kc_store_find(store, identifier);
+    put_answer(body.answer, answer);
+    *start = body.start as u64;
+    *length = body.length as u64;
+}
+
+#[no_mangle]
+pub extern "C" fn kc_store_list_into(store: &[u8], identifiers: &mut [u32], answer: &mut [u32; 3])
+    ensures answer { λ _. ⌜ now (answer .exit) ≡ answerNumbers (listed (now (store .entry)) (now (identifiers .entry)) .answer) ⌝ }
+    ensures wrote { λ _. ⌜ now (identifiers .exit) ≡ listed (now (store .entry)) (now (identifiers .entry)) .out ⌝ }
+{
+    let listed = super::book::kc_store_list(store, identifiers);
+    put_answer(listed, answer);
 }

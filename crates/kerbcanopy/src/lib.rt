@@ -1,5 +1,6 @@
 // Kerbcanopy's public entries, as C finds them: `include/kerbcanopy.h` declares each under the same name. Every entry takes any bytes,
 // asks nothing of its caller, and answers exactly what the definition that its contract cites says, refusals included.
+pub mod book;
 pub mod lent;
 
 use access::part::Part;

@@ -29,7 +29,7 @@ picked-grows s starts picks j (suc m) =
     (omega (arith, picked-grows s starts picks j m, length-append (pickedBytes s starts picks (j + m)) (startBytes s starts (getD picks (j + m) 0))))
 
 -- bytes put after the front of the output, what is beyond them being kept
-put-front : (front bytes out whole : List ℕ) (at n : ℕ) → at ≡ length front → n ≡ length bytes → whole ≡ front ++ drop at out
+pub put-front : (front bytes out whole : List ℕ) (at n : ℕ) → at ≡ length front → n ≡ length bytes → whole ≡ front ++ drop at out
     → (part : List ℕ) → part ≡ take n bytes ++ drop n (take (length whole - at) (drop at whole))
     → putMid at (length whole - at) whole part ≡ (front ++ bytes) ++ drop (at + n) out
 put-front front bytes out whole at n ea en ew part ep =

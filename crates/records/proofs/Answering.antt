@@ -25,15 +25,16 @@ use Rattle.flattened.specs.Order.{big}
 use Rattle.flattened.specs.Token.{Token}
 use Rattle.flattened.specs.Walk.{walk, walkAll, walked}
 use Rattle.flattened.specs.inner.Types.{typeAt, typesAt}
-use Rattle.members.specs.inner.Members.{Members, topAt, placeFrom, nameFrom, Column}
+use Rattle.members.specs.inner.Members.{Members, topAt, placeFrom, typeFrom, nameFrom, Column}
 use Rattle.members.specs.inner.Joining.{pickedBytes, Copies}
 use Rattle.resolution.specs.Record.{Member, writerMembers, readerMembers, joinedBytes, recordBytes, resolved}
+use Rattle.resolution.specs.inner.Data.{dataFrom}
 use Rattle.resolution.specs.inner.Searching.{Listed, allMembers}
 use Rattle.resolution.specs.inner.Picking.{Ascends, StartsIn, Plans}
 use Rattle.resolution.specs.inner.Tops.{isCluster, topCount, TopStarts, TopNames}
 use Rattle.records.specs.inner.Ready.{Ready}
 use Rattle.records.proofs.Topmost.{top-tree, top-members, top-walk, top-writers, writers-none, names-forest}
-use Rattle.records.proofs.Gathered.{data-inside, data-order, gathered}
+use Rattle.records.proofs.Gathered.{data-walked, data-inside, data-order, gathered}
 
 module _ (w r s out : List ℕ) where
   -- a descriptor that is refused
@@ -93,39 +94,58 @@ walks-all w s =
     holds-andThen (holds-self (walk big (typeAt w 0) s 0)) (λ q ts e.
     holds-require (eqb q (length s)) _ _ (λ _. found (record { short = leb-true _ _ short; end = q; walks = e }))))
 
-module _ (w r s starts reading called : List ℕ) (n : ℕ) (ready : Ready w r s starts reading called n) where
-  it : Walks w s (ready .tokens)
-  it = holds-read (ready .walks) (walks-all w s)
+-- a cluster whose data was walked
+module _ (w s : List ℕ) (writer : Accepted w) (cluster : isCluster w ≡ true) (last : ℕ) (tokens : List Token)
+    (walks : walked big (typeAt w 0) s ≡ read last tokens) where
+  it : Walks w s tokens
+  it = holds-read walks (walks-all w s)
 
+  row-walks : walkAll big (typesAt w (topCount w) (topAt w)) s 0 ≡ read (it .end) tokens
+  row-walks = sym (top-walk w writer cluster s) ∙ it .walks
+
+  pub data-short : length s ≤ dataLimit
+  data-short = it .short
+
+  -- each member's data was walked, and lies in the data
+  pub member-data : (i : ℕ) → i < topCount w
+      → (ts : List Token) × (walk big (typeFrom w (topAt w) i) s (dataFrom w (topAt w) s i) ≡ read (dataFrom w (topAt w) s (i + 1)) ts)
+  member-data = data-walked w (topCount w) (topAt w) s depthLimit (it .end) tokens (top-members w writer cluster .row) row-walks
+
+  pub member-inside : (i : ℕ) → i ≤ topCount w → dataFrom w (topAt w) s i ≤ length s
+  member-inside = data-inside w (topCount w) (topAt w) s depthLimit (it .end) tokens (top-members w writer cluster .row) row-walks
+
+  pub member-order : (i : ℕ) → i < topCount w → dataFrom w (topAt w) s i ≤ dataFrom w (topAt w) s (i + 1)
+  member-order = data-order w (topCount w) (topAt w) s depthLimit (it .end) tokens (top-members w writer cluster .row) row-walks
+
+  -- what is read of the members
+  pub members-are : (end : ℕ) × (writerMembers (typeAt w 0) s ≡ read end (allMembers w (topCount w) s))
+  members-are = (
+    it .end,
+    top-writers w writer cluster s
+        ∙ gathered w (topCount w) (topAt w) s depthLimit (it .end) tokens (top-members w writer cluster .row) row-walks,
+  )
+
+module _ (w r s starts reading called : List ℕ) (n : ℕ) (ready : Ready w r s starts reading called n) where
   abbrev k : ℕ
   k = topCount w
 
   pub ready-members : Members w k (topAt w)
   ready-members = top-members w (ready .writer) (ready .cluster)
 
-  row-walks : walkAll big (typesAt w k (topAt w)) s 0 ≡ read (it .end) (ready .tokens)
-  row-walks = sym (top-walk w (ready .writer) (ready .cluster) s) ∙ it .walks
-
   pub ready-in : StartsIn k starts s
   ready-in = record {
     at = λ i h.
         subst (λ (x : ℕ). x ≤ length s) (sym (ready .column .at i (omega arith)))
-        (data-inside w k (topAt w) s depthLimit (it .end) (ready .tokens) (ready-members .row) row-walks i h);
+        (member-inside w s (ready .writer) (ready .cluster) (ready .end) (ready .tokens) (ready .walks) i h);
   }
 
   pub ready-ascends : Ascends k starts
   ready-ascends = record {
     order = λ i h.
-        let order = data-order w k (topAt w) s depthLimit (it .end) (ready .tokens) (ready-members .row) row-walks i h in
+        let order = member-order w s (ready .writer) (ready .cluster) (ready .end) (ready .tokens) (ready .walks) i h in
         omega (arith, ready .column .at i (omega arith), ready .column .at (i + 1) (omega arith));
-    short = λ i h. omega (arith, ready-in .at i h, it .short);
+    short = λ i h. omega (arith, ready-in .at i h, data-short w s (ready .writer) (ready .cluster) (ready .end) (ready .tokens) (ready .walks));
   }
-
-  -- what is read of the members
-  members-are : writerMembers (typeAt w 0) s ≡ read (it .end) (allMembers w k s)
-  members-are =
-      top-writers w (ready .writer) (ready .cluster) s
-      ∙ gathered w k (topAt w) s depthLimit (it .end) (ready .tokens) (ready-members .row) row-walks
 
   module _ (out : List ℕ) where
     abbrev joining : Outcome (List ℕ) → Written
@@ -134,7 +154,9 @@ module _ (w r s starts reading called : List ℕ) (n : ℕ) (ready : Ready w r s
     joined : resolved w r s out ≡ joining (joinedBytes 0 (typesAt r n (topAt r)) s (allMembers w k s))
     joined =
         ahead w r s out (ready .writer) (ready .reader) (ready .end) (ready .tokens) (ready .walks)
-        ∙ (λ i. left w r s out (ready .writer) (ready .reader) (ready .names i) (members-are i))
+        ∙ (λ i.
+        left w r s out (ready .writer) (ready .reader) (ready .names i)
+        (members-are w s (ready .writer) (ready .cluster) (ready .end) (ready .tokens) (ready .walks) .1 i))
 
     module _ (picks : List ℕ) (p : Step) (plans : Plans w k r n starts picks p) where
       -- a member at fault

@@ -99,7 +99,13 @@ module _ (d : List ℕ) (k p : ℕ) (s : List ℕ) (left end : ℕ) (tokens : Li
       subst (λ (n : ℕ). From n) (add-one m)
       (record { here = b .back; eq = ap (λ (a : ℕ). walkAll big (typesAt d (k - (m + 1)) (placeFrom d p (m + 1))) s a) (next-is m more f) ∙ b .two; inside = from-next m more f .1 })
 
-  -- each member's data starts in the data, not after the next one's
+  -- each member's data was walked
+  pub data-walked : (m : ℕ) → m < k → (ts : List Token) × (walk big (typeFrom d p m) s (dataFrom d p s m) ≡ read (dataFrom d p s (m + 1)) ts)
+  data-walked m h =
+      let b = parts m h (from m (omega arith)) in
+      (b .front, b .one ∙ ap (λ (q : ℕ). read q (b .front)) (sym (next-is m h (from m (omega arith)))))
+
+  -- it starts in the data, not after the next one's
   pub data-inside : (m : ℕ) → m ≤ k → dataFrom d p s m ≤ length s
   data-inside m h = from m h .inside
 

@@ -308,13 +308,15 @@ module _ (d : List ℕ) (a : Accepted d) where
             let same = row .cluster yes-cluster in
             subst (λ (x : Inside). Column (dataFrom d (x .at) s) (suc (x .children)) starts) same (st .all on);
         place = place;
+        long = st .long;
       }
 
 -- a refusal says nothing of the column
-pub refused-top : (d s starts : List ℕ) (number place : ℕ) (r : Step) → r ≡ refusedStep number place → place ≤ dataLimit → TopStarts d s starts r
-refused-top d s starts number place r e h = record {
+pub refused-top : (d s starts : List ℕ) (number place : ℕ) (r : Step) → r ≡ refusedStep number place → place ≤ dataLimit → length starts ≡ 257 → TopStarts d s starts r
+refused-top d s starts number place r e h long = record {
   all = λ on. impossible (sym (ap (λ (x : Step). x .ok) e) ∙ on);
   place = subst (λ (n : ℕ). n ≤ dataLimit) (sym (ap (λ (x : Step). x .place) e)) h;
+  long = long;
 }
 
 -- nor of the names

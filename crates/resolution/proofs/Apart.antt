@@ -10,7 +10,7 @@ use lib.Seq.{slice}
 use Rattle.descriptor.specs.Limits.{depthLimit}
 use Rattle.descriptor.specs.Header.{reservedIn, sizeIn}
 use Rattle.descriptor.specs.Tree.{Tree, node, Forest, nil, cons, treeSize, insideAt}
-use Rattle.descriptor.specs.Encoding.{word, fieldBytes, nameBytes, encodeWith, forestWith}
+use Rattle.descriptor.specs.Encoding.{word, fieldBytes, nameBytes, encodeWith, forestWith, WellFormed}
 use Rattle.descriptor.specs.Outcome.{read}
 use Rattle.descriptor.specs.Check.{checked}
 use Rattle.descriptor.specs.inner.Standing.{standing}
@@ -60,6 +60,10 @@ module _ (d : List ℕ) (p : ℕ) (inner : Inner d p) where
     sound : Sound d depthLimit false (length d) p 0 (it .end) tree
     unfolding standing
     sound = read-sound d (bytes-of d bytes) depthLimit false (length d) p 0 (it .end) tree (omega arith) (it .eq)
+
+    -- its tree is well formed
+    pub apart-formed : WellFormed false (typeAt d p)
+    apart-formed = rw type-is (sound .formed)
 
     accepted : checked (slice p end d) ≡ read (length (slice p end d)) (typeAt d p)
     accepted =

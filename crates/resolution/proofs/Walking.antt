@@ -131,8 +131,9 @@ module _ (d : List ℕ) (k start : ℕ) (s : List ℕ) (all : Members d k start)
           record {
             all = λ _. subst (λ (n : ℕ). Column (dataFrom d start s) n (set starts k at)) (add-one k)
                 (column-more (dataFrom d start s) k at starts before (omega (arith, l .long)) (l .here ∙ ap (dataFrom d start s) last));
+            long = length-set starts k at ∙ l .long;
           }
 
 -- a refusal leaves nothing to say of the column
-pub refused-starts : (f : ℕ → ℕ) (k : ℕ) (column : List ℕ) (number place : ℕ) (r : Step) → r ≡ refusedStep number place → Starts f k column r
-refused-starts f k column number place r e = record { all = λ ok. impossible (sym (ap (λ (x : Step). x .ok) e) ∙ ok) }
+pub refused-starts : (f : ℕ → ℕ) (k : ℕ) (column : List ℕ) (number place : ℕ) (r : Step) → r ≡ refusedStep number place → length column ≡ 257 → Starts f k column r
+refused-starts f k column number place r e long = record { all = λ ok. impossible (sym (ap (λ (x : Step). x .ok) e) ∙ ok); long = long }

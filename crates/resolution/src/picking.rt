@@ -17,7 +17,7 @@ ghost use Rattle.resolution.specs.inner.Searching.{Listed};
 ghost use Rattle.resolution.specs.inner.Picking.{Called, Picks, Naming, Ascends, Plans};
 
 // The member of w that the reader's member j is read from; the value is its number. The reader's member stands at q of r and its name at y.
-fn pick(
+pub fn pick(
     w: &[u8],
     k: usize,
     places: &[u16; 256],

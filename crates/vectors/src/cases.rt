@@ -1,5 +1,6 @@
 // Tables of cases. A table is one text: each case is a name and the bytes that are asked about, each followed by a bar, a byte that stands
 // in none of them. So the proof has few texts to carry: one of a thousand bytes takes it no longer than one of four.
+use super::books::show_book;
 use super::data::show_data;
 use super::records::show_identifier;
 use super::records::show_rig;
@@ -8,9 +9,11 @@ use super::show::show;
 use bytes::scan::find;
 ghost use Prim.Native.Nat.{_≤_};
 
-// What the bytes of a table's cases are: a descriptor; a descriptor and data; a reader or a rig, data, and what the output should hold then.
+// What the bytes of a table's cases are: a descriptor; a book; a descriptor and data; a reader or a rig, data, and what the output should hold
+// then.
 pub enum Cases {
     Descriptors,
+    Books,
     Data,
     Readers,
     Rigs,
@@ -48,6 +51,10 @@ fn show_case(cases: Cases, table: &[u8], at: usize) -> usize
     match cases {
         Cases::Descriptors => {
             show(first);
+            to
+        }
+        Cases::Books => {
+            show_book(first);
             to
         }
         Cases::Data => {

@@ -1,7 +1,8 @@
 // Runs the worked descriptors of document 01 that are not proved, and those of the source documents 002 and 004, through the public
 // entries. A line for each: its name; number, input and place; the rows, as (code start size depth count name_place name_length), the
 // code hexadecimal and the others decimal; and of its normal form, whether it has the same bytes and compares equal. Then data, under a
-// descriptor: its name, number, input and place. Then records in a reader's shape, and time stamps.
+// descriptor: its name, number, input and place. Then records in a reader's shape, time stamps, and blank books.
+mod books;
 mod cases;
 mod data;
 mod numbers;
@@ -52,4 +53,7 @@ fn main() {
     records::lamp();
     stamps::worked();
     stamps::differences();
+    books::three();
+    books::narrow();
+    books::judged();
 }

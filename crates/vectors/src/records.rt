@@ -5,7 +5,7 @@ use super::show::say;
 use super::show::show_answer;
 
 // Says whether the output is as it should be.
-fn show_output(out: &[u8], wanted: &[u8]) {
+pub fn show_output(out: &[u8], wanted: &[u8]) {
     if check::same(out, wanted) {
         say(b"; output as it should be");
     } else {

@@ -1,5 +1,6 @@
 //! All that is timed, by entry.
 
+mod books;
 mod calls;
 mod data;
 mod descriptors;
@@ -22,5 +23,6 @@ pub fn rows() -> Vec<Case> {
     rows.extend(paths::rows());
     rows.extend(records::rows());
     rows.extend(stamps::rows());
+    rows.extend(books::rows());
     rows
 }

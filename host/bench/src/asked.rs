@@ -17,6 +17,8 @@ pub struct Lent {
     pub paths: Vec<Vec<u32>>,
     /// The output's length.
     pub room: usize,
+    /// What the output holds before the first call, where that matters.
+    pub before: Option<Vec<u8>>,
 }
 
 impl Lent {
@@ -26,6 +28,7 @@ impl Lent {
             bytes: bytes.iter().map(|bytes| bytes.to_vec()).collect(),
             paths: vec![vec![]],
             room: 0,
+            before: None,
         }
     }
 
@@ -36,6 +39,20 @@ impl Lent {
     pub fn with_paths(self, paths: &[Vec<u32>]) -> Lent {
         let paths = paths.to_vec();
         Lent { paths, ..self }
+    }
+
+    /// An output that holds these bytes.
+    pub fn with_output(self, bytes: &[u8]) -> Lent {
+        let before = Some(bytes.to_vec());
+        Lent { before, ..self }
+    }
+
+    /// The output as it is before the first call.
+    fn output<T: Clone + From<u8>>(&self, fill: u8) -> Vec<T> {
+        match &self.before {
+            Some(bytes) => bytes.iter().map(|byte| T::from(*byte)).collect(),
+            None => vec![T::from(fill); self.room],
+        }
     }
 }
 
@@ -56,8 +73,17 @@ pub fn asked<A: Told, B: Told>(
     kerbcanopy: impl Fn(&Lent, &[u32], &mut [u8]) -> A + 'static,
     reference: impl Fn(&Lent, &[u32], &mut [u8]) -> B + 'static,
 ) -> Asked {
+    asked_into(lent, kerbcanopy, reference)
+}
+
+/// The same for an output of bytes or numbers.
+pub fn asked_into<A: Told, B: Told, T: Clone + PartialEq + From<u8> + 'static>(
+    lent: Lent,
+    kerbcanopy: impl Fn(&Lent, &[u32], &mut [T]) -> A + 'static,
+    reference: impl Fn(&Lent, &[u32], &mut [T]) -> B + 'static,
+) -> Asked {
     let number = agreed(&lent, &kerbcanopy, &reference);
-    let out = Rc::new(RefCell::new(vec![0; lent.room]));
+    let out = Rc::new(RefCell::new(lent.output(0)));
     let lent = Rc::new(lent);
     Asked {
         number,
@@ -67,13 +93,13 @@ pub fn asked<A: Told, B: Told>(
 }
 
 /// The number that both answer.
-fn agreed<A: Told, B: Told>(
+fn agreed<A: Told, B: Told, T: Clone + PartialEq + From<u8>>(
     lent: &Lent,
-    kerbcanopy: impl Fn(&Lent, &[u32], &mut [u8]) -> A,
-    reference: impl Fn(&Lent, &[u32], &mut [u8]) -> B,
+    kerbcanopy: impl Fn(&Lent, &[u32], &mut [T]) -> A,
+    reference: impl Fn(&Lent, &[u32], &mut [T]) -> B,
 ) -> u32 {
     let numbers = lent.paths.iter().map(|path| {
-        let (mut first, mut second) = (vec![0xA5; lent.room], vec![0xA5; lent.room]);
+        let (mut first, mut second) = (lent.output(0xA5), lent.output(0xA5));
         let told = kerbcanopy(lent, path, &mut first).told();
         assert_eq!(told, reference(lent, path, &mut second).told());
         assert!(first == second, "the outputs differ");
@@ -86,10 +112,10 @@ fn agreed<A: Told, B: Told>(
 
 /// The call in a loop of its own, so that only the loop is called through a
 /// pointer. Both sides are lent the same bytes and the same output.
-fn repeated<A>(
+fn repeated<A, T: 'static>(
     lent: Rc<Lent>,
-    out: Rc<RefCell<Vec<u8>>>,
-    call: impl Fn(&Lent, &[u32], &mut [u8]) -> A + 'static,
+    out: Rc<RefCell<Vec<T>>>,
+    call: impl Fn(&Lent, &[u32], &mut [T]) -> A + 'static,
 ) -> Repeated {
     Box::new(move |times| {
         let out = &mut *out.borrow_mut();

@@ -1,5 +1,6 @@
 //! What the questions are about.
 
+pub mod books;
 pub mod descriptors;
 pub mod elements;
 pub mod records;

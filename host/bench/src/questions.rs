@@ -1,8 +1,8 @@
-//! The ten questions, each put to both implementations.
+//! The questions, each put to both implementations.
 
 use std::hint::black_box;
 
-use crate::asked::{Asked, Lent, asked};
+use crate::asked::{Asked, Lent, asked, asked_into};
 
 /// Room for every output.
 pub const ROOM: usize = 65536;
@@ -104,5 +104,58 @@ pub fn stamp_difference(first: [u32; 4], second: [u32; 4]) -> Asked {
             });
             reference::stamp_difference(first, second)
         },
+    )
+}
+
+pub fn store_check(book: &[u8]) -> Asked {
+    asked(
+        Lent::new(&[book]),
+        |lent, _, _| kerbcanopy::store_check(&lent.bytes[0]),
+        |lent, _, _| reference::store_check(&lent.bytes[0]),
+    )
+}
+
+/// Adds a record to the same book every time: before each call the book's count and the
+/// entry that the call before wrote are set back, 18 bytes that are timed on both sides.
+/// The body that it wrote stands in free bytes then, which no answer depends on.
+pub fn store_add(book: &[u8], descriptor: &[u8], data: &[u8]) -> Asked {
+    asked(
+        Lent::new(&[book, descriptor, data]).with_output(book),
+        |lent, _, book| {
+            set_back(book, &lent.bytes[0]);
+            kerbcanopy::store_add(book, &lent.bytes[1], &lent.bytes[2])
+        },
+        |lent, _, book| {
+            set_back(book, &lent.bytes[0]);
+            reference::store_add(book, &lent.bytes[1], &lent.bytes[2])
+        },
+    )
+}
+
+/// Sets the count, and the entry behind those it counts, to those of another book.
+#[inline(always)]
+fn set_back(book: &mut [u8], from: &[u8]) {
+    let count = u16::from_be_bytes([from[2], from[3]]);
+    let entry = 4 + 16 * usize::from(count);
+    book[2..4].copy_from_slice(&from[2..4]);
+    book[entry..entry + 16].copy_from_slice(&from[entry..entry + 16]);
+}
+
+/// Finds the body of each of the identifiers.
+pub fn store_find(book: &[u8], identifiers: &[u32]) -> Asked {
+    let identifiers: Vec<Vec<u32>> = identifiers.iter().map(|&one| vec![one]).collect();
+    asked(
+        Lent::new(&[book]).with_paths(&identifiers),
+        |lent, identifier, _| kerbcanopy::store_find(&lent.bytes[0], identifier[0]),
+        |lent, identifier, _| reference::store_find(&lent.bytes[0], identifier[0]),
+    )
+}
+
+/// Lists the identifiers into so many places.
+pub fn store_list(book: &[u8], places: usize) -> Asked {
+    asked_into(
+        Lent::new(&[book]).with_room(places),
+        |lent, _, places: &mut [u32]| kerbcanopy::store_list(&lent.bytes[0], places),
+        |lent, _, places: &mut [u32]| reference::store_list(&lent.bytes[0], places),
     )
 }

@@ -3,7 +3,7 @@
 use std::process::{Command, Output};
 
 /// Those that are lent bytes.
-const ENTRIES: [&str; 9] = [
+const ENTRIES: [&str; 13] = [
     "check_descriptor",
     "compare",
     "normal_form",
@@ -13,6 +13,10 @@ const ENTRIES: [&str; 9] = [
     "read_value",
     "view",
     "read_record",
+    "store_check",
+    "store_add",
+    "store_find",
+    "store_list",
 ];
 
 fn run(arguments: &[&str]) -> Output {

@@ -1,5 +1,5 @@
-//! Descriptors and data that the library has accepted, as types of their own. A
-//! refusal is an error with its number, input and place. Nothing is judged here:
+//! Descriptors, data and blank books that the library has accepted, as types of their
+//! own. A refusal is an error with its number, input and place. Nothing is judged here:
 //! every question goes to the library, which judges all that it is lent again.
 //! A descriptor is refused when it is made, as the first and only input: a
 //! reader's then has input 1.
@@ -21,12 +21,14 @@
 //! }
 //! ```
 
+mod book;
 mod data;
 mod descriptor;
 mod refusal;
 mod stamp;
 mod value;
 
+pub use book::Book;
 pub use data::Data;
 pub use descriptor::Descriptor;
 pub use refusal::Refusal;

@@ -202,3 +202,66 @@ pub fn stamp_difference(
         );
     }
 }
+
+/// The answer of [`crate::store_check`].
+pub fn store_check(store: &[u8], answer: &mut Numbers) {
+    // SAFETY: each pointer and length are those of one live borrow, and the
+    // borrows of what is written keep it apart from the rest.
+    unsafe {
+        raw::kc_store_check_into(store.as_ptr(), store.len(), answer);
+    }
+}
+
+/// The answer of [`crate::store_add`], and the book as that leaves it.
+pub fn store_add(store: &mut [u8], descriptor: &[u8], data: &[u8], answer: &mut Numbers) {
+    // SAFETY: each pointer and length are those of one live borrow, and the
+    // borrows of what is written keep it apart from the rest.
+    unsafe {
+        raw::kc_store_add_into(
+            store.as_mut_ptr(),
+            store.len(),
+            descriptor.as_ptr(),
+            descriptor.len(),
+            data.as_ptr(),
+            data.len(),
+            answer,
+        );
+    }
+}
+
+/// The answer and the part of [`crate::store_find`].
+pub fn store_find(
+    store: &[u8],
+    identifier: u32,
+    answer: &mut Numbers,
+    start: &mut u64,
+    length: &mut u64,
+) {
+    // SAFETY: each pointer and length are those of one live borrow, and the
+    // borrows of what is written keep it apart from the rest.
+    unsafe {
+        raw::kc_store_find_into(
+            store.as_ptr(),
+            store.len(),
+            identifier,
+            answer,
+            start,
+            length,
+        );
+    }
+}
+
+/// The answer and the identifiers of [`crate::store_list`].
+pub fn store_list(store: &[u8], identifiers: &mut [u32], answer: &mut Numbers) {
+    // SAFETY: each pointer and length are those of one live borrow, and the
+    // borrows of what is written keep it apart from the rest.
+    unsafe {
+        raw::kc_store_list_into(
+            store.as_ptr(),
+            store.len(),
+            identifiers.as_mut_ptr(),
+            identifiers.len(),
+            answer,
+        );
+    }
+}

@@ -16,11 +16,13 @@ mod meaning;
 mod raw;
 mod record;
 mod stamp;
+mod store;
 
 pub use data::{check_data, from_little_endian, read_value, to_little_endian, view};
 pub use descriptor::{Compared, check_descriptor, compare, normal_form};
-pub use limits::{DATA_LIMIT, DESCRIPTOR_LIMIT};
+pub use limits::{BOOK_LIMIT, DATA_LIMIT, DESCRIPTOR_LIMIT};
 pub use meaning::meaning;
 pub use raw::{Answer, Checked, Difference, Part, Row, Value};
 pub use record::read_record;
 pub use stamp::{Stamp, stamp_difference};
+pub use store::{store_add, store_check, store_find, store_list};

@@ -39,6 +39,11 @@ pub fn meaning(number: u32) -> &'static str {
         43 => "the writer has several members of this name",
         44 => "the writer's member of this name is of another type",
         50 => "the output is too small",
+        60 => "the identifier is already in the book",
+        61 => "the book has no free entry",
+        62 => "the book has no room for the body",
+        63 => "the book is not well formed",
+        64 => "the book has no record of this identifier",
         _ => "a number that is not known here",
     }
 }
@@ -54,12 +59,13 @@ mod tests {
             .chain([25])
             .chain(30..=32)
             .chain(40..=44)
-            .chain([50]);
+            .chain([50])
+            .chain(60..=64);
         let mut meanings: Vec<_> = numbers.map(meaning).collect();
         assert!(!meanings.contains(&meaning(0)));
         meanings.sort();
         meanings.dedup();
-        assert_eq!(meanings.len(), 26);
+        assert_eq!(meanings.len(), 31);
         // Given once, for a Boolean's byte over 1.
         assert_eq!(meaning(24), meaning(0));
     }

@@ -42,8 +42,8 @@ pub(crate) struct RawCompared {
     pub(crate) equal: u8,
 }
 
-/// What a view returns: the answer, and the part of the lent data, empty and at
-/// the front after a refusal.
+/// What a view and a search in a blank book return: the answer, and the part of the
+/// lent data or book, empty and at the front after a refusal.
 #[repr(C)]
 #[derive(Clone, Copy, Debug, PartialEq, Eq)]
 pub struct Part {
@@ -146,6 +146,22 @@ unsafe extern "C" {
         second_fraction_high: u32,
         second_fraction_low: u32,
     ) -> Difference;
+    pub(crate) fn kc_store_check(store: *const u8, store_len: usize) -> Answer;
+    pub(crate) fn kc_store_add(
+        store: *mut u8,
+        store_len: usize,
+        descriptor: *const u8,
+        descriptor_len: usize,
+        data: *const u8,
+        data_len: usize,
+    ) -> Answer;
+    pub(crate) fn kc_store_find(store: *const u8, store_len: usize, identifier: u32) -> Part;
+    pub(crate) fn kc_store_list(
+        store: *const u8,
+        store_len: usize,
+        identifiers: *mut u32,
+        identifiers_len: usize,
+    ) -> Answer;
     pub(crate) fn kc_check_descriptor_into(
         descriptor: *const u8,
         descriptor_len: usize,
@@ -237,5 +253,30 @@ unsafe extern "C" {
         answer: *mut [u32; 3],
         seconds: *mut i64,
         fraction: *mut u64,
+    );
+    pub(crate) fn kc_store_check_into(store: *const u8, store_len: usize, answer: *mut [u32; 3]);
+    pub(crate) fn kc_store_add_into(
+        store: *mut u8,
+        store_len: usize,
+        descriptor: *const u8,
+        descriptor_len: usize,
+        data: *const u8,
+        data_len: usize,
+        answer: *mut [u32; 3],
+    );
+    pub(crate) fn kc_store_find_into(
+        store: *const u8,
+        store_len: usize,
+        identifier: u32,
+        answer: *mut [u32; 3],
+        start: *mut u64,
+        length: *mut u64,
+    );
+    pub(crate) fn kc_store_list_into(
+        store: *const u8,
+        store_len: usize,
+        identifiers: *mut u32,
+        identifiers_len: usize,
+        answer: *mut [u32; 3],
     );
 }

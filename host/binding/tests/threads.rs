@@ -6,20 +6,22 @@ use std::thread;
 
 use kerbcanopy::{
     Answer, Checked, Compared, Difference, Part, Stamp, Value, check_data, check_descriptor,
-    compare, from_little_endian, normal_form, read_record, read_value, stamp_difference,
-    to_little_endian, view,
+    compare, from_little_endian, normal_form, read_record, read_value, stamp_difference, store_add,
+    store_check, store_find, store_list, to_little_endian, view,
 };
 
 const THREADS: usize = 8;
 const ROUNDS: usize = 40;
 
-/// A descriptor, another, data under the first, a path into it, and two time stamps.
+/// A descriptor, another, data under the first, a path into it, two time stamps, and a
+/// blank book.
 struct Input {
     first: Vec<u8>,
     second: Vec<u8>,
     data: Vec<u8>,
     path: Vec<u32>,
     stamps: [Stamp; 2],
+    book: Vec<u8>,
 }
 
 /// What every entry gives for an input, with every byte of the outputs.
@@ -32,6 +34,31 @@ struct Given {
     value: Value,
     difference: Difference,
     outputs: [(Answer, Vec<u8>); 4],
+    book: Asked,
+}
+
+/// What is told of a book, the next blank being added to it: the check, the book with
+/// its answer, the part of that blank, and the list.
+#[derive(Debug, PartialEq, Eq)]
+struct Asked {
+    check: Answer,
+    added: (Answer, Vec<u8>),
+    found: Part,
+    listed: (Answer, [u32; 8]),
+}
+
+impl Asked {
+    fn of(book: &[u8]) -> Asked {
+        let (mut grown, mut identifiers) = (book.to_vec(), [7; 8]);
+        let next = u32::from(book[3]);
+        let added = store_add(&mut grown, &blank(), &next.to_be_bytes());
+        Asked {
+            check: store_check(book),
+            found: store_find(&grown, next),
+            listed: (store_list(&grown, &mut identifiers), identifiers),
+            added: (added, grown),
+        }
+    }
 }
 
 impl Given {
@@ -54,6 +81,7 @@ impl Given {
                 output(&|out| from_little_endian(first, data, out)),
                 output(&|out| read_record(first, second, data, out)),
             ],
+            book: Asked::of(&input.book),
         }
     }
 }
@@ -73,6 +101,23 @@ fn cluster(members: &[Vec<u8>]) -> Vec<u8> {
 fn named(number: usize) -> Vec<u8> {
     let name = format!("{number:03}");
     descriptor(0x05, &[&[3], name.as_bytes()].concat())
+}
+
+/// The shortest rig that has a blank's identifier.
+fn blank() -> Vec<u8> {
+    cluster(&[descriptor(0x07, b"\x05blank")])
+}
+
+/// A book of five entries with the first blanks in it; one more than five has its
+/// count broken instead.
+fn book(blanks: u8) -> Vec<u8> {
+    let mut book = vec![0; 300];
+    book[1] = 5;
+    for identifier in 0..blanks.min(5) {
+        store_add(&mut book, &blank(), &u32::from(identifier).to_be_bytes());
+    }
+    book[3] = blanks;
+    book
 }
 
 /// A time stamp that follows from a number, by chance early or late.
@@ -102,9 +147,10 @@ fn inputs() -> Vec<Input> {
         data: data.to_vec(),
         path: path.to_vec(),
         stamps: [stamp(first.len()), stamp(data.len())],
+        book: Vec::new(),
     };
     let bytes: Vec<u8> = (0..255).collect();
-    vec![
+    let mut inputs = vec![
         input(&cluster(&wide), &cluster(&back), &bytes, &[254]),
         input(&cluster(&wide), &cluster(&wide[7..90]), &bytes, &[]),
         input(&deep(0x02), &deep(0x06), &[0xFF, 0xFE], &[0; 7]),
@@ -113,7 +159,11 @@ fn inputs() -> Vec<Input> {
         input(&doubles[1..], &deep(0x21), &many, &[1, 1]),
         input(&cluster(&[deep(0x21)]), &[], &[1], &[]),
         input(&[], &[], &[], &[]),
-    ]
+    ];
+    for (blanks, input) in inputs.iter_mut().enumerate() {
+        input.book = book(blanks as u8);
+    }
+    inputs
 }
 
 /// Every thread starts at another input, so that at any time some ask about the
@@ -139,6 +189,10 @@ fn many_threads_get_what_one_gets() {
     assert_eq!(accepted, 4);
     let far = |given: &&Given| given.difference.answer.number == 32;
     assert!((1..alone.len()).contains(&alone.iter().filter(far).count()));
+    let numbers = alone.iter().map(|given| given.book.added.0.number);
+    let [added, full, bad] =
+        [0, 61, 63].map(|number| numbers.clone().filter(|given| *given == number).count());
+    assert!(added > 1 && full > 0 && bad > 0, "{added} {full} {bad}");
     let together = Barrier::new(THREADS);
     thread::scope(|scope| {
         for number in 0..THREADS {

@@ -4,28 +4,43 @@
 use std::ffi::{OsStr, OsString};
 use std::os::unix::ffi::OsStrExt;
 
-use crate::command::{self, Command};
+use crate::command::{self, Command, Operand};
+use crate::help::Topic;
 use crate::words::shown;
 
 /// Everything that an option can ask for.
 #[derive(Debug, Default, PartialEq, Eq)]
 pub struct Options {
     pub all: bool,
+    pub data: bool,
+    pub descriptor: bool,
     pub hex: bool,
     pub html: bool,
     pub json: bool,
     pub table: bool,
     pub out: Option<OsString>,
     pub room: Option<usize>,
+    pub capacity: Option<usize>,
+    pub bytes: Option<usize>,
 }
 
 #[derive(Debug)]
 pub enum Arguments {
-    /// Help, about one command or about all of them.
-    Help(Option<&'static Command>),
+    Help(Topic),
     Version,
     Run(&'static Command, Vec<OsString>, Options),
 }
+
+/// The options without a value.
+const FLAGS: [&str; 7] = [
+    "--all",
+    "--data",
+    "--descriptor",
+    "--hex",
+    "--html",
+    "--json",
+    "--table",
+];
 
 /// The words so far.
 #[derive(Default)]
@@ -42,19 +57,11 @@ impl Arguments {
     /// Reads the words, or says what is wrong with them.
     pub fn read(words: &[OsString]) -> Result<Arguments, String> {
         let words = Words::read(words)?;
-        let Some((name, operands)) = words.operands.split_first() else {
-            return match (words.help, words.version) {
-                (true, _) => Ok(Arguments::Help(None)),
-                (_, true) => Ok(Arguments::Version),
-                _ => Err("no command; see kerbcanopy --help".into()),
-            };
+        let Some((command, operands)) = command::named(&words.operands) else {
+            return words.without_command();
         };
-        let command = command::named(name).ok_or_else(|| {
-            let name = shown(name);
-            format!("there is no command {name}; see kerbcanopy --help")
-        })?;
         if words.help {
-            return Ok(Arguments::Help(Some(command)));
+            return Ok(Arguments::Help(Topic::One(command)));
         }
         if words.version {
             return Ok(Arguments::Version);
@@ -86,6 +93,32 @@ impl<'a> Words<'a> {
         Ok(read)
     }
 
+    /// What words come to that name no command, or no whole one: help about several
+    /// or the version, else trouble.
+    fn without_command(&self) -> Result<Arguments, String> {
+        let (topic, trouble) = match &self.operands[..] {
+            [] => (Topic::All, "no command; see kerbcanopy --help".to_string()),
+            [first, behind @ ..] => match (command::family(first), behind) {
+                (None, _) => {
+                    let name = shown(first);
+                    return Err(format!("there is no command {name}; see kerbcanopy --help"));
+                }
+                (Some(family), [second, ..]) => {
+                    let name = shown(second);
+                    return Err(format!(
+                        "there is no command {family} {name}; see kerbcanopy {family} --help"
+                    ));
+                }
+                (Some(family), []) => (Topic::Family(family), incomplete(family)),
+            },
+        };
+        match (self.help, self.version) {
+            (true, _) => Ok(Arguments::Help(topic)),
+            (_, true) => Ok(Arguments::Version),
+            _ => Err(trouble),
+        }
+    }
+
     /// Takes an option, with its value from the words behind it where it has one.
     fn option(
         &mut self,
@@ -97,20 +130,10 @@ impl<'a> Words<'a> {
         let name = OsStr::from_bytes(halves.next().unwrap_or_default());
         let given = halves.next().map(|value| OsStr::from_bytes(value).into());
         let option = name.to_str().unwrap_or_default();
-        let known = ["--all", "--hex", "--html", "--json", "--table"];
-        let known = known.into_iter().find(|known| *known == option);
+        let known = FLAGS.into_iter().find(|known| *known == option);
         match (option, known, given) {
-            ("-o" | "--output", _, given) => {
-                let value = given.or_else(|| words.next().cloned());
-                let value = value.filter(|value| !value.is_empty());
-                self.options.out = Some(value.ok_or("-o needs the name of a file")?);
-                self.named.push("-o");
-            }
-            ("--room", _, given) => {
-                let value = given.or_else(|| words.next().cloned());
-                let number = value.and_then(|value| value.to_str()?.parse().ok());
-                self.options.room = Some(number.ok_or("--room needs a number of bytes")?);
-                self.named.push("--room");
+            ("-o" | "--output" | "--room" | "--capacity" | "--bytes", _, given) => {
+                self.valued(option, given.or_else(|| words.next().cloned()))?;
             }
             ("-h" | "--help", _, None) => self.help = true,
             ("-V" | "--version", _, None) => self.version = true,
@@ -128,9 +151,31 @@ impl<'a> Words<'a> {
         Ok(())
     }
 
+    /// Takes an option that has a value, or says what that is to be.
+    fn valued(&mut self, option: &str, value: Option<OsString>) -> Result<(), String> {
+        let options = &mut self.options;
+        let (named, number, what) = match option {
+            "--room" => ("--room", &mut options.room, "bytes"),
+            "--bytes" => ("--bytes", &mut options.bytes, "bytes"),
+            "--capacity" => ("--capacity", &mut options.capacity, "entries"),
+            _ => {
+                let name = value.filter(|value| !value.is_empty());
+                options.out = Some(name.ok_or("-o needs the name of a file")?);
+                self.named.push("-o");
+                return Ok(());
+            }
+        };
+        let given = value.and_then(|value| value.to_str()?.parse().ok());
+        *number = Some(given.ok_or_else(|| format!("{named} needs a number of {what}"))?);
+        self.named.push(named);
+        Ok(())
+    }
+
     fn flag(&mut self, option: &'static str) {
         let flag = match option {
             "--all" => &mut self.options.all,
+            "--data" => &mut self.options.data,
+            "--descriptor" => &mut self.options.descriptor,
             "--hex" => &mut self.options.hex,
             "--html" => &mut self.options.html,
             "--json" => &mut self.options.json,
@@ -144,17 +189,8 @@ impl<'a> Words<'a> {
     fn fit(&self, command: &Command, operands: &[&OsStr]) -> Result<(), String> {
         let name = command.name;
         let see = format!("see kerbcanopy {name} --help");
-        let common = ["--hex", "--json"];
-        let unknown = |option: &&str| !common.contains(option) && !command.options.contains(option);
-        if let Some(option) = self.named.iter().copied().find(unknown) {
-            return Err(format!("{name} takes no {option}; {see}"));
-        }
-        if self.options.html && self.options.json {
-            return Err(format!("{name} gives --html or --json, not both; {see}"));
-        }
-        if self.options.json && self.options.out.as_deref() == Some(OsStr::new("-")) {
-            return Err(format!("{name} can't give --json and -o - in one; {see}"));
-        }
+        self.fit_options(command)
+            .map_err(|trouble| format!("{name} {trouble}; {see}"))?;
         let taken = command.taken(operands.len());
         let hint = command.hint(operands.len());
         if let Some(missing) = taken.get(operands.len()) {
@@ -165,13 +201,53 @@ impl<'a> Words<'a> {
             let more = shown(more);
             return Err(format!("{name} can't take {more} as well{hint}; {see}"));
         }
-        let files = operands.iter().zip(taken);
-        let files = files.filter(|(_, operand)| operand.limit().is_some());
-        if files.filter(|(word, _)| **word == "-").count() > 1 {
+        let dashes = operands.iter().zip(taken);
+        let dashes: Vec<Operand> = dashes
+            .filter_map(|(word, operand)| (*word == "-").then_some(operand))
+            .collect();
+        if dashes.contains(&Operand::Changed) {
+            return Err(format!(
+                "{name} can't take standard input for a book; {see}"
+            ));
+        }
+        if dashes.iter().filter_map(|operand| operand.limit()).count() > 1 {
             return Err(format!("{name} can read standard input once; {see}"));
         }
         Ok(())
     }
+
+    /// Says what the command can't do with these options, or without others.
+    fn fit_options(&self, command: &Command) -> Result<(), String> {
+        let common = ["--hex", "--json"];
+        let known = [&common, command.needed, command.options].concat();
+        let mut named = self.named.iter();
+        if let Some(option) = named.find(|option| !known.contains(option)) {
+            return Err(format!("takes no {option}"));
+        }
+        let mut needed = command.needed.iter();
+        if let Some(missing) = needed.find(|option| !self.named.contains(option)) {
+            return Err(format!("needs {missing}"));
+        }
+        let options = &self.options;
+        if options.html && options.json {
+            return Err("gives --html or --json, not both".into());
+        }
+        if options.descriptor && options.data {
+            return Err("gives --descriptor or --data, not both".into());
+        }
+        if options.json && options.out.as_deref() == Some(OsStr::new("-")) {
+            return Err("can't give --json and -o - in one".into());
+        }
+        Ok(())
+    }
+}
+
+/// That a first word alone is no command, and which second ones there are.
+fn incomplete(family: &str) -> String {
+    let names = command::members(family).map(|command| command.name);
+    let seconds: Vec<&str> = names.filter_map(|name| name.split(' ').nth(1)).collect();
+    let seconds = seconds.join(", ");
+    format!("{family} needs one of {seconds}; see kerbcanopy {family} --help")
 }
 
 #[cfg(test)]
@@ -216,6 +292,21 @@ mod tests {
     }
 
     #[test]
+    fn a_command_may_have_two_words() {
+        for words in [
+            ["book", "new", "a", "--capacity", "4", "--bytes=512"],
+            ["--bytes=512", "book", "--capacity", "4", "new", "a"],
+        ] {
+            let (name, operands, options) = run(&words);
+            assert_eq!((name, operands), ("book new", vec!["a".into()]));
+            assert_eq!((options.capacity, options.bytes), (Some(4), Some(512)));
+        }
+        let (name, operands, options) = run(&["book", "find", "a", "9", "--data"]);
+        assert_eq!((name, operands.len()), ("book find", 2));
+        assert!(options.data && !options.descriptor);
+    }
+
+    #[test]
     fn two_dashes_end_the_options() {
         let (_, operands, options) = run(&["view", "--", "-", "--json", "-1"]);
         assert_eq!(operands, ["-", "--json", "-1"]);
@@ -224,17 +315,33 @@ mod tests {
 
     #[test]
     fn help_and_version_come_first() {
-        assert!(matches!(read(&["--help"]), Ok(Arguments::Help(None))));
-        let check = read(&["check", "-h", "--table"]);
-        assert!(matches!(check, Ok(Arguments::Help(Some(command))) if command.name == "check"));
-        for words in [&["--version"][..], &["-V"], &["read", "--version"]] {
+        let all = read(&["--help"]);
+        assert!(matches!(all, Ok(Arguments::Help(Topic::All))));
+        let books = read(&["--help", "book"]);
+        assert!(matches!(books, Ok(Arguments::Help(Topic::Family("book")))));
+        for (words, name) in [
+            (&["check", "-h", "--table"][..], "check"),
+            (&["book", "--help", "check"], "book check"),
+        ] {
+            let one = read(words);
+            assert!(
+                matches!(one, Ok(Arguments::Help(Topic::One(command))) if command.name == name)
+            );
+        }
+        for words in [
+            &["--version"][..],
+            &["-V"],
+            &["read", "--version"],
+            &["book", "-V"],
+            &["book", "-V", "add"],
+        ] {
             assert!(matches!(read(words), Ok(Arguments::Version)), "{words:?}");
         }
     }
 
     #[test]
     fn a_wrong_use_is_named() {
-        let cases: [(&[&str], &str); 23] = [
+        let cases: [(&[&str], &str); 34] = [
             (&[], "no command"),
             (&["look", "a"], "there is no command look"),
             (&["\u{1b}"], "there is no command \\x1B"),
@@ -269,6 +376,41 @@ mod tests {
             (
                 &["difference", "a", "-", "-", "b", "-", "-"],
                 "difference can read standard input",
+            ),
+            (
+                &["book"],
+                "book needs one of new, check, add, find, list; see kerbcanopy book --help",
+            ),
+            (&["book", "look"], "there is no command book look"),
+            (&["book add", "a"], "there is no command book add"),
+            (&["book", "add", "a"], "book add needs a DESCRIPTOR"),
+            (
+                &["book", "new", "a", "--bytes", "9"],
+                "book new needs --capacity",
+            ),
+            (
+                &["book", "new", "a", "--capacity=9"],
+                "book new needs --bytes",
+            ),
+            (
+                &["book", "new", "a", "--capacity", "few"],
+                "--capacity needs a number of entries",
+            ),
+            (
+                &["book", "check", "a", "--bytes=4"],
+                "book check takes no --bytes",
+            ),
+            (
+                &["book", "find", "a", "9", "--data", "--descriptor"],
+                "book find gives --descriptor or --data",
+            ),
+            (
+                &["book", "add", "-", "a", "b"],
+                "book add can't take standard input for a book",
+            ),
+            (
+                &["book", "add", "a", "-", "-"],
+                "book add can read standard input once",
             ),
         ];
         for (words, expected) in cases {

@@ -17,25 +17,39 @@ pub enum Operand {
     Data(&'static str),
     /// All the steps of a path in one word.
     Path,
+    /// A book to be read: raw bytes, whatever its name says.
+    Book,
+    /// A book to be made or changed. It is read once it is locked, so that its name
+    /// is handed on.
+    Changed,
+    /// The identifier of a record.
+    Identifier,
 }
 
 #[derive(Debug)]
 pub struct Command {
+    /// One word or, of several commands about one thing, that and another.
     pub name: &'static str,
     pub operands: &'static [Operand],
     /// The operands that may be left out, all of them or none.
     pub optional: Range<usize>,
     /// Whether steps follow the operands.
     pub steps: bool,
+    /// The options that can't be left out.
+    pub needed: &'static [&'static str],
     /// The options beside `--hex` and `--json`, which every command takes.
     pub options: &'static [&'static str],
     run: fn(&Request) -> Result<Outcome, String>,
 }
 
-/// What is asked: the files' contents, the steps or paths, and the options.
+/// What is asked.
 pub struct Request<'a> {
+    /// All operands as they were given.
+    pub operands: &'a [OsString],
+    /// What stands in those that are read before.
     pub files: Vec<Input>,
-    pub steps: &'a [OsString],
+    /// The others: steps or paths, a book that is changed, an identifier.
+    pub words: &'a [OsString],
     pub options: &'a Options,
 }
 
@@ -45,7 +59,7 @@ const OUTPUT: &[&str] = &["-o", "--room"];
 /// What helps where a path's steps were given apart.
 const ONE_WORD: &str = "; a path of several steps is one word in quotes";
 
-pub const COMMANDS: [Command; 12] = [
+pub const COMMANDS: [Command; 17] = [
     command("check", &[DESCRIPTOR], &["--table", "--all"], ask::check),
     command(
         "compare",
@@ -95,6 +109,24 @@ pub const COMMANDS: [Command; 12] = [
         OUTPUT,
         ask::read,
     ),
+    Command {
+        needed: &["--capacity", "--bytes"],
+        ..command("book new", &[Operand::Changed], &[], ask::book_new)
+    },
+    command("book check", &[Operand::Book], &[], ask::book_check),
+    command(
+        "book add",
+        &[Operand::Changed, DESCRIPTOR, DATA],
+        &[],
+        ask::book_add,
+    ),
+    command(
+        "book find",
+        &[Operand::Book, Operand::Identifier],
+        &["--descriptor", "--data", "-o"],
+        ask::book_find,
+    ),
+    command("book list", &[Operand::Book], &[], ask::book_list),
 ];
 
 const fn command(
@@ -108,6 +140,7 @@ const fn command(
         operands,
         optional: 0..0,
         steps: false,
+        needed: &[],
         options,
         run,
     }
@@ -129,6 +162,8 @@ impl Operand {
         match self {
             Operand::Descriptor(word) | Operand::Data(word) => word,
             Operand::Path => "PATH",
+            Operand::Book | Operand::Changed => "FILE",
+            Operand::Identifier => "ID",
         }
     }
 
@@ -137,7 +172,8 @@ impl Operand {
         match self {
             Operand::Descriptor(_) => Some(kerbcanopy::DESCRIPTOR_LIMIT),
             Operand::Data(_) => Some(kerbcanopy::DATA_LIMIT),
-            Operand::Path => None,
+            Operand::Book => Some(kerbcanopy::BOOK_LIMIT),
+            Operand::Path | Operand::Changed | Operand::Identifier => None,
         }
     }
 }
@@ -165,15 +201,31 @@ impl Command {
     }
 }
 
-/// The command of this name.
-pub fn named(name: &OsStr) -> Option<&'static Command> {
-    COMMANDS.iter().find(|command| name == command.name)
+/// The command that the first of these words name, and the words behind its name.
+pub fn named<'a, 'b>(words: &'a [&'b OsStr]) -> Option<(&'static Command, &'a [&'b OsStr])> {
+    COMMANDS.iter().find_map(|command| {
+        let name: Vec<&OsStr> = command.name.split(' ').map(OsStr::new).collect();
+        Some((command, words.strip_prefix(&name[..])?))
+    })
+}
+
+/// The first word of several commands, where this is one.
+pub fn family(word: &OsStr) -> Option<&'static str> {
+    let names = COMMANDS.iter().map(|command| command.name);
+    let mut families = names.filter_map(|name| Some(name.split_once(' ')?.0));
+    families.find(|family| word == *family)
+}
+
+/// The commands whose names start with this word.
+pub fn members(family: &str) -> impl Iterator<Item = &'static Command> {
+    let first = move |name: &str| name.split(' ').next() == Some(family);
+    COMMANDS.iter().filter(move |command| first(command.name))
 }
 
 /// Reads the files and asks, or says what the trouble is.
 pub fn run(arguments: &Arguments) -> Result<Outcome, String> {
     let (command, operands, options) = match arguments {
-        Arguments::Help(command) => return Ok(Outcome::accepted(help::text(*command))),
+        Arguments::Help(topic) => return Ok(Outcome::accepted(help::text(*topic))),
         Arguments::Version => return Ok(Outcome::accepted(help::version())),
         Arguments::Run(command, operands, options) => (command, operands, options),
     };
@@ -185,7 +237,10 @@ pub fn run(arguments: &Arguments) -> Result<Outcome, String> {
     for (word, operand) in words.iter().zip(taken) {
         match operand.limit() {
             Some(limit) => {
-                let read = Input::read(word, options.hex, limit);
+                let read = match operand {
+                    Operand::Book => Input::raw(word, limit),
+                    _ => Input::read(word, options.hex, limit),
+                };
                 files.push(read.map_err(|trouble| {
                     // It may be another step of the path.
                     match behind_path && !Path::new(word).exists() {
@@ -200,8 +255,9 @@ pub fn run(arguments: &Arguments) -> Result<Outcome, String> {
     }
     paths.extend_from_slice(steps);
     (command.run)(&Request {
+        operands,
         files,
-        steps: &paths,
+        words: &paths,
         options,
     })
 }

@@ -2,6 +2,7 @@
 //! other and against the library, on descriptors and data at random.
 
 mod answers;
+mod books;
 mod damage;
 mod explained;
 mod grow;
@@ -53,8 +54,9 @@ fn asked(
         ..Options::default()
     };
     let outcome = question(&Request {
+        operands: &[],
         files: files.iter().map(|bytes| input(bytes)).collect(),
-        steps,
+        words: steps,
         options: &options,
     });
     let outcome = outcome.expect("there is no trouble");

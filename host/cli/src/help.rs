@@ -2,17 +2,26 @@
 
 use std::ops::Range;
 
-use crate::command::{COMMANDS, Command};
+use crate::command::{self, COMMANDS, Command};
+
+/// What the help is about.
+#[derive(Clone, Copy, Debug)]
+pub enum Topic {
+    All,
+    /// The commands whose names start with this word.
+    Family(&'static str),
+    One(&'static Command),
+}
 
 const OPENING: &str =
-    "Reads LabVIEW type descriptors and flattened data, and hands a record over in
-the shape its reader asks for.
+    "Reads LabVIEW type descriptors and flattened data, hands a record over in the
+shape its reader asks for, and keeps the records of a run in one file, a book.
 
 ";
 
 const CLOSING: &str = "
 Options stand anywhere behind the command's name or before it:
-  --hex          every input is hexadecimal text, whatever its name
+  --hex          every input but a book is hexadecimal text, whatever its name
   --json         the answer as one line of JSON, refusals too
   -h, --help     this text, or that of one command
   -V, --version  the version
@@ -24,22 +33,37 @@ the bytes are accepted (or equal), 1 where they are refused, 2 for a wrong use
 or trouble with a file, and 3 where two descriptors differ.
 ";
 
+const BOOKS: &str = "A blank book is one file for the records of a run. Each is kept as its
+descriptor and its data, and found by its identifier, its one unsigned 32-bit
+member named \"blank\". A book is raw bytes, whatever its name and --hex say, and
+at most 65,536 of them: the capacity, the number of entries in use, an entry of
+16 bytes for each record, and the records.
+
+";
+
 pub fn version() -> String {
     format!("kerbcanopy {}\n", env!("CARGO_PKG_VERSION"))
 }
 
-/// The help about one command, or about all of them.
-pub fn text(command: Option<&Command>) -> String {
-    if let Some(command) = command {
-        return format!("usage: {}\n\n{}", usage(command), about(command.name));
+/// The help about one command, about some, or about all of them.
+pub fn text(topic: Topic) -> String {
+    match topic {
+        Topic::One(command) => format!("usage: {}\n\n{}", usage(command), about(command.name)),
+        Topic::Family(family) => {
+            let lines: String = command::members(family).map(line).collect();
+            format!("usage: kerbcanopy {family} COMMAND ..\n\n{BOOKS}{lines}")
+        }
+        Topic::All => {
+            let lines: String = COMMANDS.iter().map(line).collect();
+            format!("usage: kerbcanopy COMMAND ..\n\n{OPENING}{lines}{CLOSING}")
+        }
     }
-    let mut text = format!("usage: kerbcanopy COMMAND ..\n\n{OPENING}");
-    for command in &COMMANDS {
-        let about = about(command.name);
-        let first = about.lines().next().unwrap_or_default();
-        text += &format!("  {:<11}{first}\n", command.name);
-    }
-    text + CLOSING
+}
+
+/// A command's name with the first line about it.
+fn line(command: &Command) -> String {
+    let about = about(command.name).lines().next().unwrap_or_default();
+    format!("  {:<12}{about}\n", command.name)
 }
 
 fn usage(command: &Command) -> String {
@@ -57,6 +81,10 @@ fn usage(command: &Command) -> String {
     if command.steps {
         words.push("[STEP..]".into());
     }
+    words.extend(command.needed.iter().map(|option| match *option {
+        "--capacity" => "--capacity N".into(),
+        option => format!("{option} M"),
+    }));
     for option in command.options {
         words.push(match *option {
             "-o" => "[-o OUT]".into(),
@@ -69,7 +97,7 @@ fn usage(command: &Command) -> String {
 }
 
 /// What each command does: a line, then what else there is to say.
-const ABOUT: [(&str, &str); 12] = [
+const ABOUT: [(&str, &str); 17] = [
     (
         "check",
         "lists a descriptor's types, or says why it is none
@@ -173,6 +201,50 @@ WRITER is the descriptor of the data, READER a cluster of the members wanted. Gi
 are their bytes joined, in the reader's order: as text, or with -o as for normal.
 ",
     ),
+    (
+        "book new",
+        "makes a blank book, one file for the records of a run
+
+It has N entries, one for each record that it is to hold, and M bytes in all, of
+which 4 and 16 for each entry are taken; 65,536 are the most. There is no record in
+it yet. A file that is there already is never replaced.
+",
+    ),
+    (
+        "book check",
+        "says whether a file is a well-formed book, and what is free in it
+
+Free are the entries behind the last in use and the bytes behind the last record.
+Every record is judged, and its identifier is read again.
+",
+    ),
+    (
+        "book add",
+        "adds a record to a book, by its identifier, \"blank\"
+
+DESCRIPTOR is a cluster with one unsigned 32-bit member named \"blank\", DATA a record
+under it. What is said, the identifier and the entry, is on the disk by then. The
+file is replaced as a whole or not at all: a refusal, a full disk or a kill leaves
+the old book. It is locked meanwhile, so that of several adds at once none is lost:
+the later ones wait.
+",
+    ),
+    (
+        "book find",
+        "gives the record of an identifier: its descriptor, then its data
+
+ID is a decimal number, or a hexadecimal one behind 0x. As text, or with -o as for
+normal. --descriptor and --data give one of the two alone: with -o as the files
+that the other commands take.
+",
+    ),
+    (
+        "book list",
+        "lists the identifiers in a book in the order of its entries
+
+A line for each.
+",
+    ),
 ];
 
 fn about(name: &str) -> &'static str {
@@ -191,8 +263,10 @@ mod tests {
         abouts.sort();
         abouts.dedup();
         assert_eq!(abouts.len(), COMMANDS.len());
-        for line in text(None).lines() {
-            assert!(line.len() <= 80, "{line}");
+        for topic in [Topic::All, Topic::Family("book")] {
+            for line in text(topic).lines() {
+                assert!(line.len() <= 80, "{line}");
+            }
         }
     }
 
@@ -213,6 +287,14 @@ mod tests {
         assert_eq!(
             of("view"),
             "kerbcanopy view DESCRIPTOR DATA [STEP..] [-o OUT] [--hex] [--json]"
+        );
+        assert_eq!(
+            of("book new"),
+            "kerbcanopy book new FILE --capacity N --bytes M [--hex] [--json]"
+        );
+        assert_eq!(
+            of("book find"),
+            "kerbcanopy book find FILE ID [--descriptor] [--data] [-o OUT] [--hex] [--json]"
         );
     }
 }

@@ -21,11 +21,19 @@ impl Input {
     /// Reads up to one byte over the limit: whatever follows, the answer is that
     /// there is too much. Says what the trouble is where it can't be read.
     pub fn read(operand: &OsStr, hex: bool, limit: usize) -> Result<Input, String> {
+        Input::of(operand, hex || is_text(operand), limit)
+    }
+
+    /// Reads as many bytes as they came, whatever the name says.
+    pub fn raw(operand: &OsStr, limit: usize) -> Result<Input, String> {
+        Input::of(operand, false, limit)
+    }
+
+    fn of(operand: &OsStr, hex: bool, limit: usize) -> Result<Input, String> {
         let name = match operand == "-" {
             true => "standard input".to_string(),
             false => shown(operand),
         };
-        let hex = hex || is_text(operand);
         let bytes = match operand == "-" {
             true => read(io::stdin().lock(), hex, limit + 1),
             false => File::open(operand)

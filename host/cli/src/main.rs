@@ -6,6 +6,7 @@
 
 mod arguments;
 mod ask;
+mod book;
 mod command;
 #[cfg(test)]
 mod consistency;

@@ -6,6 +6,7 @@ use std::ffi::OsString;
 use kerbcanopy::accepted::Stamp;
 use kerbcanopy::{Answer, meaning};
 
+use crate::book::told;
 use crate::descriptor::Descriptor;
 use crate::difference;
 use crate::facts;
@@ -36,6 +37,9 @@ pub struct Lent<'a> {
     pub room: usize,
     /// The two stamps whose difference is asked for, each with its data.
     pub stamps: Option<[(&'a Input, Stamp); 2]>,
+    /// The book that is asked, and the identifier that is looked for in it.
+    pub book: Option<&'a Input>,
+    pub identifier: u32,
 }
 
 impl<'a> Lent<'a> {
@@ -50,6 +54,8 @@ impl<'a> Lent<'a> {
             path: &[],
             room: 0,
             stamps: None,
+            book: None,
+            identifier: 0,
         }
     }
 
@@ -61,10 +67,29 @@ impl<'a> Lent<'a> {
         }
     }
 
+    /// A book, asked for this identifier or for none.
+    pub fn book(book: &'a Input, identifier: u32) -> Lent<'a> {
+        Lent {
+            book: Some(book),
+            identifier,
+            ..Lent::descriptors(book, None)
+        }
+    }
+
     /// The input of this number, and what it is. The request is told by the file
     /// that it was about.
     fn input(&self, number: u32) -> (&'a Input, &'static str) {
         let data = self.data.unwrap_or(self.first);
+        if let Some(book) = self.book {
+            return match (number, self.second) {
+                (1, _) => (self.first, "the descriptor"),
+                // The shape is the book's own, and no file: its name is the descriptor's,
+                // which lacks what is asked for.
+                (2, Some(shape)) => (shape, "the book's shape"),
+                (3, _) => (data, "the data"),
+                _ => (book, "the request"),
+            };
+        }
         match (number, self.second, self.data) {
             (1, None, _) => (self.first, "the descriptor"),
             (1, _, None) => (self.first, "the first descriptor"),
@@ -116,10 +141,19 @@ impl Refusal {
                 refusal.there = format!("room for {}", counted(lent.room, "byte"));
                 refusal.facts = format!("{} needed", counted(answer.place as usize, "byte"));
             }
+            60..=64 => {
+                (refusal.there, refusal.facts) = told::of(answer, &file.bytes, lent.identifier);
+            }
             _ => refusal.under_types(lent),
         }
-        if (1..=3).contains(&answer.input) && !file.text && looks_like_text(&file.bytes) {
-            refusal.facts += "; it looks like hexadecimal text, which --hex reads";
+        if !file.text && looks_like_text(&file.bytes) {
+            refusal.facts += match answer {
+                Answer { number: 63, .. } => "; it looks like hexadecimal text, and a book is raw",
+                Answer { input: 1..=3, .. } => {
+                    "; it looks like hexadecimal text, which --hex reads"
+                }
+                _ => "",
+            };
         }
         refusal
     }
@@ -321,7 +355,7 @@ fn marked(steps: &[OsString], answer: Answer) -> String {
 }
 
 /// The bytes around the place, the one there in brackets.
-fn around(bytes: &[u8], place: usize) -> String {
+pub fn around(bytes: &[u8], place: usize) -> String {
     let place = place.min(bytes.len());
     let start = place.saturating_sub(AROUND);
     let end = bytes.len().min(place + 1 + AROUND);

@@ -43,7 +43,12 @@ fn behind_links(target: &Path) -> io::Result<PathBuf> {
 
 fn replace(target: &Path, old: Option<fs::Metadata>, bytes: &[u8]) -> io::Result<()> {
     let (path, file) = beside(target)?;
-    let written = fill(file, old, bytes).and_then(|()| fs::rename(&path, target));
+    let written = match old {
+        Some(old) => file.set_permissions(old.permissions()),
+        None => Ok(()),
+    };
+    let written = written.and_then(|()| fill(file, bytes));
+    let written = written.and_then(|()| fs::rename(&path, target));
     if written.is_err() {
         let _ = fs::remove_file(&path);
         return written;
@@ -56,16 +61,14 @@ fn replace(target: &Path, old: Option<fs::Metadata>, bytes: &[u8]) -> io::Result
     Ok(())
 }
 
-fn fill(mut file: File, old: Option<fs::Metadata>, bytes: &[u8]) -> io::Result<()> {
-    if let Some(old) = old {
-        file.set_permissions(old.permissions())?;
-    }
+/// Writes the bytes to a new file, and brings them to the disk.
+pub fn fill(mut file: File, bytes: &[u8]) -> io::Result<()> {
     file.write_all(bytes)?;
     file.sync_all()
 }
 
 /// A new file in the target's folder that nobody else has.
-fn beside(target: &Path) -> io::Result<(PathBuf, File)> {
+pub fn beside(target: &Path) -> io::Result<(PathBuf, File)> {
     for number in 0.. {
         // Short, whatever the target's own name is.
         let new = format!(".kerbcanopy-{}-{number}.new", process::id());
@@ -78,7 +81,7 @@ fn beside(target: &Path) -> io::Result<(PathBuf, File)> {
     Err(io::ErrorKind::AlreadyExists.into())
 }
 
-fn folder_of(target: &Path) -> &Path {
+pub fn folder_of(target: &Path) -> &Path {
     match target.parent() {
         Some(folder) if !folder.as_os_str().is_empty() => folder,
         _ => Path::new("."),

@@ -7,10 +7,13 @@ use crate::descriptor::Descriptor;
 /// How many items of an enumeration are listed where not all are asked for.
 const ITEMS: usize = 12;
 
-/// A number of things: `1 byte`, `2 bytes`.
+/// A number of things: `1 byte`, `2 bytes`, `2 entries`.
 pub fn counted(count: usize, thing: &str) -> String {
-    let ending = if count == 1 { "" } else { "s" };
-    format!("{count} {thing}{ending}")
+    match thing.strip_suffix('y') {
+        _ if count == 1 => format!("1 {thing}"),
+        Some(stem) => format!("{count} {stem}ies"),
+        None => format!("{count} {thing}s"),
+    }
 }
 
 /// What a code is, whatever its count.
@@ -147,6 +150,14 @@ pub fn shown(word: &OsStr) -> String {
 #[cfg(test)]
 mod tests {
     use super::*;
+
+    #[test]
+    fn things_are_counted() {
+        assert_eq!(counted(1, "byte"), "1 byte");
+        assert_eq!(counted(0, "byte"), "0 bytes");
+        assert_eq!(counted(1, "entry"), "1 entry");
+        assert_eq!(counted(2, "entry"), "2 entries");
+    }
 
     #[test]
     fn every_carried_code_has_words() {

@@ -1,17 +1,19 @@
 //! The cases of a seed by their numbers: first the limits of descriptors, of
-//! records, of data and of time stamps, then what chance brings.
+//! records, of data, of time stamps and of blank books, then what chance brings.
 
 use crate::difference::Held;
 use crate::random::Random;
 use crate::tally::Tally;
-use crate::{data, descriptor, interval, record};
+use crate::{data, descriptor, interval, record, store};
 
-/// A case about descriptors, data, a record in a reader's shape or time stamps.
+/// A case about descriptors, data, a record in a reader's shape, time stamps or a blank
+/// book.
 pub enum Case {
     Descriptor(descriptor::case::Case),
     Data(data::case::Case),
     Record(record::case::Case),
     Interval(interval::case::Case),
+    Store(store::case::Case),
 }
 
 /// The cases that every seed starts with.
@@ -20,6 +22,7 @@ pub struct Limits {
     data: Vec<data::limits::Limit>,
     records: Vec<record::limits::Limit>,
     intervals: Vec<interval::limits::Limit>,
+    books: Vec<store::limits::Limit>,
 }
 
 impl Limits {
@@ -29,6 +32,7 @@ impl Limits {
             data: data::limits::all(),
             records: record::limits::all(),
             intervals: interval::limits::all(),
+            books: store::limits::all(),
         }
     }
 }
@@ -52,11 +56,16 @@ impl Case {
         if let Some(limit) = limits.intervals.get(number) {
             return Case::Interval(interval::case::Case::of_limit(limit));
         }
-        match random.below(51) {
+        let number = number - limits.intervals.len();
+        if let Some(limit) = limits.books.get(number) {
+            return Case::Store(store::case::Case::of_limit(limit));
+        }
+        match random.below(53) {
             0..20 => Case::Descriptor(descriptor::case::Case::any(random)),
             20..40 => Case::Data(data::case::Case::any(random)),
             40..50 => Case::Record(record::case::Case::any(random)),
-            _ => Case::Interval(interval::case::Case::any(random)),
+            50 => Case::Interval(interval::case::Case::any(random)),
+            _ => Case::Store(store::case::Case::any(random)),
         }
     }
 
@@ -66,6 +75,7 @@ impl Case {
             Case::Data(case) => &case.what,
             Case::Record(case) => &case.what,
             Case::Interval(case) => &case.what,
+            Case::Store(case) => &case.what,
         }
     }
 
@@ -76,6 +86,7 @@ impl Case {
             Case::Data(case) => data::hold::hold(case, random, exact, tally),
             Case::Record(case) => record::hold::hold(case, random, exact, tally),
             Case::Interval(case) => interval::hold::hold(case, tally),
+            Case::Store(case) => store::hold::hold(case, random, exact, tally),
         }
     }
 }

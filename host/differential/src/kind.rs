@@ -7,6 +7,7 @@ pub enum Area {
     Data,
     Record,
     Interval,
+    Store,
 }
 
 #[derive(Clone, Copy, PartialEq, Eq)]
@@ -35,6 +36,12 @@ pub enum Kind {
     Stamps,
     Summed,
     Apart,
+    BookLimit,
+    Book,
+    LongBook,
+    DamagedBook,
+    SpoiledBook,
+    StrayBook,
 }
 
 /// A kind with its words and the column in which it is counted.
@@ -67,8 +74,8 @@ const OF_DESCRIPTORS: [u32; 12] = [1, 2, 3, 4, 5, 6, 7, 8, 9, 10, 11, 12];
 const OF_DATA: [u32; 5] = [20, 21, 22, 23, 25];
 
 /// Every kind, in the order of the enum.
-pub const KINDS: [Known; 24] = {
-    use Area::{Data, Descriptor, Interval, Record};
+pub const KINDS: [Known; 30] = {
+    use Area::{Data, Descriptor, Interval, Record, Store};
     [
         known(
             Kind::Limit,
@@ -206,6 +213,37 @@ pub const KINDS: [Known; 24] = {
                 "time stamps in one second, or as far apart as can be",
             ],
             &[0, 32],
+        ),
+        known(
+            Kind::BookLimit,
+            Store,
+            ["limits", "limits of books and their neighbours"],
+            &[0, 63],
+        ),
+        known(Kind::Book, Store, ["kept", "well-formed books"], &[0]),
+        known(
+            Kind::LongBook,
+            Store,
+            ["long", "books about as long as they can be"],
+            &[0],
+        ),
+        known(
+            Kind::DamagedBook,
+            Store,
+            ["damaged", "damaged books"],
+            &[0, 63],
+        ),
+        known(
+            Kind::SpoiledBook,
+            Store,
+            ["spoiled", "books with a record that none takes"],
+            &[0, 63],
+        ),
+        known(
+            Kind::StrayBook,
+            Store,
+            ["random", "random bytes as books"],
+            &[0, 63],
         ),
     ]
 };

@@ -1,6 +1,6 @@
-//! Buffers to lend, of bytes or of a path's steps: in the middle of a larger
-//! buffer whose other items stand guard, or in an allocation of exactly the right
-//! length.
+//! Buffers to lend, of bytes, a path's steps or places for identifiers: in the middle
+//! of a larger buffer whose other items stand guard, or in an allocation of exactly the
+//! right length.
 
 use crate::random::Random;
 
@@ -63,9 +63,20 @@ impl<T: Copy + PartialEq + From<u8>> Lent<T> {
         &self.buffer[self.start..self.start + self.length]
     }
 
+    pub fn items_mut(&mut self) -> &mut [T] {
+        &mut self.buffer[self.start..self.start + self.length]
+    }
+
     /// Whether every item, lent or guard, is as it was.
     pub fn untouched(&self) -> bool {
         self.buffer == self.before
+    }
+
+    /// Whether only the first `written` lent items may have changed.
+    pub fn untouched_beyond(&self, written: usize) -> bool {
+        let end = self.start + written;
+        self.buffer[..self.start] == self.before[..self.start]
+            && self.buffer[end..] == self.before[end..]
     }
 }
 
@@ -80,13 +91,6 @@ impl Lent {
     }
 
     pub fn bytes_mut(&mut self) -> &mut [u8] {
-        &mut self.buffer[self.start..self.start + self.length]
-    }
-
-    /// Whether only the first `written` lent bytes may have changed.
-    pub fn untouched_beyond(&self, written: usize) -> bool {
-        let end = self.start + written;
-        self.buffer[..self.start] == self.before[..self.start]
-            && self.buffer[end..] == self.before[end..]
+        self.items_mut()
     }
 }

@@ -22,6 +22,7 @@ mod random;
 mod record;
 mod seed;
 mod stamp;
+mod store;
 mod tally;
 mod tight;
 mod tree;

@@ -21,9 +21,9 @@ pub const USAGE: &str =
 /// The seeds that every gate run takes.
 const FIXED_SEEDS: [u64; 4] = [1, 2, 3, 4];
 /// Cases of each seed in the gate run.
-pub const GATE_CASES: u64 = 300_000;
+pub const GATE_CASES: u64 = 312_600;
 /// The same when a memory checker looks on, which takes one fixed seed.
-const EXACT_CASES: u64 = 10_600;
+const EXACT_CASES: u64 = 11_300;
 /// The longest run, in minutes.
 const MOST_MINUTES: f64 = 100_000.0;
 

@@ -2,11 +2,15 @@
 //! struct and the one that fills lent numbers. A difference unless both say the
 //! same, set every number and leave what stands around it.
 
+mod store;
+
 use kerbcanopy::lent::{self, Numbers, Table};
 use kerbcanopy::{Answer, Checked, Compared, Difference, Part, Row, Value};
 use reference::Stamp;
 
 use crate::difference::{Held, demand, demand_guarded, outputs};
+
+pub use store::{store_add, store_check, store_find, store_list};
 
 /// A question about data whose answer is written.
 pub type Writing = fn(&[u8], &[u8], &mut [u8]) -> Held<Answer>;
@@ -212,15 +216,26 @@ fn written(
     by_struct: impl FnOnce(&mut [u8]) -> Answer,
     by_numbers: impl FnOnce(&mut [u8], &mut Numbers),
 ) -> Held<Answer> {
-    let guard = [PAINT; AROUND];
+    written_items(question, out, by_struct, by_numbers, outputs)
+}
+
+/// The same for bytes or numbers; `texts` tells two rooms that differ.
+fn written_items<T: Copy + PartialEq + From<u8>>(
+    question: &str,
+    out: &mut [T],
+    by_struct: impl FnOnce(&mut [T]) -> Answer,
+    by_numbers: impl FnOnce(&mut [T], &mut Numbers),
+    texts: impl FnOnce(&[T], &[T]) -> [String; 2],
+) -> Held<Answer> {
+    let guard = [T::from(PAINT); AROUND];
     let mut room = [&guard[..], &*out, &guard[..]].concat();
     let end = AROUND + out.len();
     let mut answer = painted();
     by_numbers(&mut room[AROUND..end], &mut answer.lent);
     let given = by_struct(out);
     demand_numbers(question, &answer, given)?;
-    let texts = || outputs(&room[AROUND..end], out);
-    demand(room[AROUND..end] == *out, question, texts)?;
+    let same = room[AROUND..end] == *out;
+    demand(same, question, || texts(&room[AROUND..end], out))?;
     demand_guarded(room[..AROUND] == guard && room[end..] == guard, question)?;
     Ok(given)
 }

@@ -4,7 +4,7 @@
 pub mod case;
 pub mod hold;
 pub mod limits;
-mod rig;
+pub mod rig;
 mod stated;
 mod wanted;
 mod wide;

@@ -1,5 +1,5 @@
 //! Counts what the cases met, and says whether anything of document 01, or of
-//! requests 1 to 3 of document 02, was met too seldom.
+//! requests 1 to 4 of document 02, was met too seldom.
 
 mod data;
 mod descriptor;
@@ -9,6 +9,7 @@ mod lines;
 mod met;
 mod places;
 mod record;
+mod store;
 mod table;
 
 use reference::{Answer, Compared};
@@ -23,7 +24,7 @@ use table::{Cell, Table};
 pub struct Tally {
     pub cases: u64,
     answers: Table,
-    kinds: [Table; 4],
+    kinds: [Table; 5],
     depths: Table,
     codes: Table,
     bodies: Table,
@@ -33,6 +34,8 @@ pub struct Tally {
     records: Table,
     stamps: Table,
     flags: Table,
+    books: Table,
+    neighbours: Table,
     lines: Lines,
 }
 
@@ -63,6 +66,8 @@ impl Tally {
             records: record::reasons(),
             stamps: interval::standings(),
             flags: flags::bytes(),
+            books: store::reasons(),
+            neighbours: store::neighbours(),
             lines: Lines::new(),
         }
     }
@@ -76,14 +81,15 @@ impl Tally {
         self.lines.add(&other.lines);
     }
 
-    fn tables(&self) -> [&Table; 14] {
-        let [descriptors, data, records, intervals] = &self.kinds;
+    fn tables(&self) -> [&Table; 17] {
+        let [descriptors, data, records, intervals, books] = &self.kinds;
         [
             &self.answers,
             descriptors,
             data,
             records,
             intervals,
+            books,
             &self.depths,
             &self.codes,
             &self.bodies,
@@ -93,17 +99,20 @@ impl Tally {
             &self.records,
             &self.stamps,
             &self.flags,
+            &self.books,
+            &self.neighbours,
         ]
     }
 
-    fn tables_mut(&mut self) -> [&mut Table; 14] {
-        let [descriptors, data, records, intervals] = &mut self.kinds;
+    fn tables_mut(&mut self) -> [&mut Table; 17] {
+        let [descriptors, data, records, intervals, books] = &mut self.kinds;
         [
             &mut self.answers,
             descriptors,
             data,
             records,
             intervals,
+            books,
             &mut self.depths,
             &mut self.codes,
             &mut self.bodies,
@@ -113,6 +122,8 @@ impl Tally {
             &mut self.records,
             &mut self.stamps,
             &mut self.flags,
+            &mut self.books,
+            &mut self.neighbours,
         ]
     }
 

@@ -58,6 +58,7 @@ fn what_was_met_is_printed() {
         "data by kind",
         "records by kind",
         "stamps by kind",
+        "books by kind",
         "by depth",
         "code ",
         "bodies",
@@ -67,6 +68,8 @@ fn what_was_met_is_printed() {
         "because",
         "stamps ",
         "byte of a Boolean",
+        "ill formed by",
+        "a body behind",
         "a number's value",
     ] {
         let table = lines.iter().any(|line| line.starts_with(title));

@@ -2,12 +2,16 @@
 //! second time in safe Rust: descriptor check, compare and normal form; data
 //! check, view, value, to little-endian and back; the record in a reader's
 //! shape; and, as document 02 asks, time stamps and their difference, Booleans of
-//! any byte, and refusals that point at the byte. Nothing here allocates.
+//! any byte, refusals that point at the byte, and the blank book. Nothing here
+//! allocates.
 #![forbid(unsafe_code)]
 
+mod blank;
+mod book;
 mod copy;
 mod data;
 mod endian;
+mod entry;
 mod judge;
 mod kind;
 mod members;
@@ -16,11 +20,13 @@ mod order;
 mod path;
 mod plan;
 mod record;
+mod register;
 mod reverse;
 mod rows;
 mod search;
 mod shape;
 mod stamp;
+mod store;
 mod tour;
 mod walk;
 
@@ -29,6 +35,7 @@ pub use endian::{from_little_endian, to_little_endian};
 pub use path::{Part, Value, read_value, view};
 pub use record::read_record;
 pub use stamp::{Difference, Stamp, stamp_difference};
+pub use store::{store_add, store_check, store_find, store_list};
 
 use normal::Starts;
 use walk::{Refusal, Visitor};

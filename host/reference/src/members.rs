@@ -6,7 +6,7 @@ use crate::walk::{Visitor, walk};
 use crate::{Answer, MOST_ROWS, Row, refused};
 
 /// The depth of what stands directly in the top descriptor.
-const INSIDE_TOP: u16 = 2;
+pub(crate) const INSIDE_TOP: u16 = 2;
 
 /// What stands directly in the top: its row, and the place of its name's first
 /// character, 0 where there is no name.

@@ -4,18 +4,8 @@
 #[allow(dead_code, reason = "each test program uses a part of it")]
 mod build;
 
-use build::{answer, array, cluster, enumeration, plain, quantity, text};
+use build::{answer, array, cluster, enumeration, named, plain, quantity, text};
 use reference::{Answer, check_data, compare, read_record};
-
-/// The descriptor with this name behind it.
-fn named(mut descriptor: Vec<u8>, name: &str) -> Vec<u8> {
-    descriptor.push(name.len() as u8);
-    descriptor.extend(name.bytes());
-    descriptor.resize(descriptor.len().next_multiple_of(2), 0);
-    let size = (descriptor.len() as u16).to_be_bytes();
-    descriptor[..2].copy_from_slice(&size);
-    descriptor
-}
 
 fn number(code: u8, name: &str) -> Vec<u8> {
     named(plain(code), name)

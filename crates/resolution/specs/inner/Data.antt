@@ -3,6 +3,7 @@ use mathlib.Core.Path.{_≡_}
 use mathlib.Core.Bool.{true}
 use mathlib.Core.List.{List, [], _∷_}
 use Prim.Native.Nat.{ℕ, zero, suc}
+use lib.ListN.{length}
 use Rattle.descriptor.specs.inner.Standing.{nextOf}
 use Rattle.descriptor.specs.declared.step.Step.{Step}
 use Rattle.flattened.specs.Order.{big}
@@ -27,3 +28,4 @@ membersFor d p s i (suc n) = memberFrom d p s i ∷ membersFor d p s (suc i) n
 -- where the walk r was read, the column has the starts of k descriptors' data and where the last ends
 pub record Starts (f : ℕ → ℕ) (k : ℕ) (column : List ℕ) (r : Step) : Type 0 where
   pub all : r .ok ≡ true → Column f (suc k) column
+  pub long : length column ≡ 257

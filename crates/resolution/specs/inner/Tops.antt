@@ -3,6 +3,7 @@ use mathlib.Core.Path.{_≡_}
 use mathlib.Core.Bool.{Bool, true, false}
 use mathlib.Core.List.{List}
 use Prim.Native.Nat.{ℕ, suc, _≤_}
+use lib.ListN.{length}
 use Rattle.descriptor.specs.Limits.{descriptorLimit, dataLimit}
 use Rattle.descriptor.specs.Tree.{Fields, empty, items, pairs, text, dimensions, members, subtype}
 use Rattle.descriptor.specs.inner.Standing.{standing, fieldsOf, insideOf}
@@ -45,6 +46,7 @@ pub record TopRow (d : List ℕ) (r : Inside) : Type 0 where
 pub record TopStarts (d s starts : List ℕ) (r : Step) : Type 0 where
   pub all : r .ok ≡ true → isCluster d ≡ true → Column (dataFrom d (topAt d) s) (suc (topCount d)) starts
   pub place : r .place ≤ dataLimit
+  pub long : length starts ≡ 257
 
 -- where the reader's names are right, its members are listed, and each has a name
 pub record TopNames (d places names : List ℕ) (r : Step) : Type 0 where

@@ -1,12 +1,12 @@
-//! The rows about a call by itself: a descriptor that is too long is refused
-//! before a byte of it is read.
+//! The rows about a call by itself: a descriptor or a book that is too long is
+//! refused before a byte of it is read.
 
 use crate::case::Case;
 use crate::questions::{self, ROOM};
 
 pub fn rows() -> Vec<Case> {
     let long = [0; 4097];
-    [
+    let mut rows: Vec<Case> = [
         ("check_descriptor", questions::check_descriptor(&long)),
         ("compare", questions::compare(&long, &[])),
         ("normal_form", questions::normal_form(&long, ROOM)),
@@ -24,5 +24,18 @@ pub fn rows() -> Vec<Case> {
         ("read_record", questions::read_record(&long, &[], &[], ROOM)),
     ]
     .map(|(entry, asked)| Case::early(entry, "4,097 bytes, refused at once", asked))
-    .into()
+    .into();
+    rows.extend(of_books());
+    rows
+}
+
+fn of_books() -> [Case; 4] {
+    let long = [0; 65537];
+    [
+        ("store_check", questions::store_check(&long)),
+        ("store_add", questions::store_add(&long, &[], &[])),
+        ("store_find", questions::store_find(&long, &[0])),
+        ("store_list", questions::store_list(&long, 1)),
+    ]
+    .map(|(entry, asked)| Case::early(entry, "65,537 bytes, refused at once", asked))
 }

@@ -1,9 +1,11 @@
-//! How cost grows with rows and with data.
+//! How cost grows with rows, with data and with a book.
 
+use crate::about::books::{self, PLACES};
 use crate::about::order::lent_in;
 use crate::about::records;
 use crate::asked::Asked;
 use crate::case::Case;
+use crate::inputs::books::{Book, shortest};
 use crate::inputs::descriptors::numbers;
 use crate::inputs::elements::{self, Element};
 use crate::inputs::records::{Extent, Order, Record, array_of, members};
@@ -30,6 +32,7 @@ pub struct Curve {
 pub fn curves() -> Vec<Curve> {
     let mut curves = by_rows();
     curves.extend(by_bytes());
+    curves.extend(by_book());
     curves
 }
 
@@ -104,6 +107,28 @@ fn by_bytes() -> Vec<Curve> {
         }),
     ]);
     curves
+}
+
+/// Books filled with the shortest records.
+fn by_book() -> Vec<Curve> {
+    let of_book = |entry, what: &'static str, ask: fn(&Book) -> Asked| {
+        curve(Along::Bytes, |bytes| {
+            let book = shortest(bytes);
+            Case::new(entry, what, bytes, ask(&book))
+        })
+    };
+    vec![
+        of_book("store_check", "a full book", |book| {
+            questions::store_check(&book.bytes)
+        }),
+        of_book("store_add", "the last record of a book", books::add_last),
+        of_book("store_find", "the last of a full book", |book| {
+            questions::store_find(&book.bytes, &[book.last()])
+        }),
+        of_book("store_list", "a full book", |book| {
+            questions::store_list(&book.bytes, PLACES)
+        }),
+    ]
 }
 
 /// The check of data of several kinds.

@@ -135,7 +135,7 @@ impl<'a> Panel<'a> {
         }
         let name = match self.curve.along {
             Along::Rows => "rows of the descriptor",
-            Along::Bytes => "data",
+            Along::Bytes => "data, or the book",
         };
         svg.text_around((self.left + right) / 2.0, bottom + 28.0, "small", name);
         svg.line((self.left, bottom), (right, bottom), "#555", 1.0);

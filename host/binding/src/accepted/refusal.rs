@@ -21,7 +21,8 @@ use crate::{Answer, meaning};
 #[derive(Clone, Copy, Debug, PartialEq, Eq, Hash)]
 pub struct Refusal {
     /// Why: 1 to 12 for a descriptor, 20 to 23 and 25 for data, 30 and 31 for a path,
-    /// 32 for a difference, 40 to 44 for a record in a reader's shape, 50 for room.
+    /// 32 for a difference, 40 to 44 for a record in a reader's shape, 50 for room, 60
+    /// to 64 for a blank book.
     pub number: u32,
     /// What is at fault: 1 the first or the writer's descriptor, 2 the second or
     /// the reader's, 3 the data, 4 the request.
@@ -39,8 +40,11 @@ pub struct Refusal {
     ///
     /// A word's place is its first byte. For 12 it is the descriptor's size, for 21
     /// to 23 the first byte of the piece at fault, for 25 the first byte left over,
-    /// for 30 the step, for 40 and 42 to 44 the reader's member, for 50 the length
-    /// needed, else 0.
+    /// for 30 the step, for 40 and 42 to 44 the reader's member, for 50 the length or
+    /// count needed, for 60 the entry that has the identifier, for 62 the body's
+    /// length. For 63 it is 0 where the book's length is at fault, the capacity where
+    /// the contents don't fit or more entries are in use than there are, and else the
+    /// first bad entry. For all others it is 0.
     pub place: u32,
 }
 

@@ -51,11 +51,11 @@ pub fn verdict(data: &Input, answer: Answer) -> String {
 /// The number at the end of a path.
 pub fn value(request: &Request) -> Result<Outcome, String> {
     let record = inputs(request);
-    let path = follow(record, request.steps)?;
+    let path = follow(record, request.words)?;
     let (descriptor, data) = record;
     let read = kerbcanopy::read_value(&descriptor.bytes, &data.bytes, &path);
     if read.answer.number != 0 {
-        let refusal = not_followed(record, request.steps, &path, read.answer);
+        let refusal = not_followed(record, request.words, &path, read.answer);
         return Ok(refusal.outcome(request.options.json));
     }
     Ok(Outcome::accepted(match request.options.json {
@@ -67,11 +67,11 @@ pub fn value(request: &Request) -> Result<Outcome, String> {
 /// The bytes of a part, behind a comment that says where they stand.
 pub fn view(request: &Request) -> Result<Outcome, String> {
     let record = inputs(request);
-    let path = follow(record, request.steps)?;
+    let path = follow(record, request.words)?;
     let (descriptor, data) = record;
     let part = kerbcanopy::view(&descriptor.bytes, &data.bytes, &path);
     if part.answer.number != 0 {
-        let refusal = not_followed(record, request.steps, &path, part.answer);
+        let refusal = not_followed(record, request.words, &path, part.answer);
         return Ok(refusal.outcome(request.options.json));
     }
     let bytes = &data.bytes[part.start..part.start + part.length];

@@ -21,7 +21,7 @@ pub fn difference(request: &Request) -> Result<Outcome, String> {
         _ => unreachable!("difference has one record or two"),
     };
     let mut stamps = Vec::new();
-    for (record, word) in records.into_iter().zip(request.steps) {
+    for (record, word) in records.into_iter().zip(request.words) {
         match stamp_at(record, word, request.options.json)? {
             Ok(stamp) => stamps.push(stamp),
             Err(refused) => return Ok(refused),

@@ -12,7 +12,7 @@ use crate::command::Request;
 use crate::descriptor::Descriptor;
 use crate::outcome::{Outcome, Status};
 
-type Question = fn(&Request) -> Result<Outcome, String>;
+pub type Question = fn(&Request) -> Result<Outcome, String>;
 
 /// Questions that judge the descriptor and the data first, in the same way.
 const ABOUT_DATA: [Question; 4] = [ask::dump, ask::value, ask::view, ask::little];
@@ -33,8 +33,9 @@ fn answers(question: Question, files: &[&[u8]], steps: &[OsString]) -> Json {
 fn differs(files: &[&[u8]], paths: &[OsString]) {
     let options = Options::default();
     let outcome = ask::difference(&Request {
+        operands: &[],
         files: files.iter().map(|bytes| input(bytes)).collect(),
-        steps: paths,
+        words: paths,
         options: &options,
     });
     match outcome {

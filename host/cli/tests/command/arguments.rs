@@ -3,10 +3,11 @@
 use std::ffi::OsString;
 use std::os::unix::ffi::OsStringExt;
 
+use crate::common::books::plain;
 use crate::common::descriptors::descriptor;
 use crate::common::{Folder, sample};
 
-const COMMANDS: [&str; 12] = [
+const COMMANDS: [&str; 17] = [
     "check",
     "compare",
     "normal",
@@ -19,7 +20,17 @@ const COMMANDS: [&str; 12] = [
     "little",
     "big",
     "read",
+    "book new",
+    "book check",
+    "book add",
+    "book find",
+    "book list",
 ];
+
+/// The words of a command's name, and more behind them.
+fn with<'a>(command: &'a str, more: &[&'a str]) -> Vec<&'a str> {
+    command.split(' ').chain(more.iter().copied()).collect()
+}
 
 fn rig(test: &str) -> Folder {
     let names = [
@@ -29,8 +40,12 @@ fn rig(test: &str) -> Folder {
         "data/rig-little.hex",
         "coat.hex",
         "data/coat.hex",
+        "plating.hex",
+        "data/plating.hex",
     ];
-    Folder::with_samples(test, &names)
+    let folder = Folder::with_samples(test, &names);
+    folder.put("book", &plain(4, 200, &[9, 14]));
+    folder
 }
 
 #[test]
@@ -92,7 +107,7 @@ fn dashes_end_the_options() {
 }
 
 /// The words of every command, with `-` for each file in turn.
-const FED: [(&[&str], &str); 22] = [
+const FED: [(&[&str], &str); 25] = [
     (&["check", "-"], "rig.hex"),
     (&["compare", "-", "rig.hex"], "rig.hex"),
     (&["compare", "rig.hex", "-"], "rig.hex"),
@@ -140,6 +155,9 @@ const FED: [(&[&str], &str); 22] = [
     (&["read", "-", "reader.hex", "data-rig.hex"], "rig.hex"),
     (&["read", "rig.hex", "-", "data-rig.hex"], "reader.hex"),
     (&["read", "rig.hex", "reader.hex", "-"], "data-rig.hex"),
+    (&["book", "check", "-"], "book"),
+    (&["book", "find", "-", "9"], "book"),
+    (&["book", "list", "-"], "book"),
 ];
 
 #[test]
@@ -200,6 +218,24 @@ fn standard_input_is_read_once() {
 }
 
 #[test]
+fn a_book_that_is_changed_stands_in_a_file() {
+    let folder = rig("arguments-book");
+    for words in [
+        &["book", "add", "-", "plating.hex", "data-plating.hex"][..],
+        &["book", "add", "-", "-", "-"],
+        &["book", "new", "-", "--capacity=1", "--bytes=99"],
+    ] {
+        let name = words[..2].join(" ");
+        folder.run(words).troubles(&format!(
+            "{name} can't take standard input for a book; see kerbcanopy {name} --help"
+        ));
+    }
+    folder
+        .run(&["book", "add", "book", "-", "-"])
+        .troubles("book add can read standard input once; see kerbcanopy book add --help");
+}
+
+#[test]
 fn text_is_told_by_the_name_or_the_option() {
     let folder = rig("arguments-hex");
     for name in ["A.HEX", "a.Hex", "b.c.hex"] {
@@ -234,21 +270,50 @@ fn help_goes_to_standard_output() {
             whole.text().contains(&format!("\n  {command} ")),
             "{command}"
         );
-        let one = folder.run(&[command, "--help"]);
+        let one = folder.run(&with(command, &["--help"]));
         assert_eq!(one.status, 0);
         assert!(
             one.text()
                 .starts_with(&format!("usage: kerbcanopy {command} "))
         );
         for words in [
-            &[command, "-h"][..],
-            &["--help", command],
-            &[command, "missing", "--help"],
-            &[command, "a", "b", "c", "d", "--html", "--help"],
+            with(command, &["-h"]),
+            [vec!["--help"], with(command, &[])].concat(),
+            with(command, &["missing", "--help"]),
+            with(command, &["a", "b", "c", "d", "--html", "--help"]),
         ] {
-            folder.run(words).gives(one.text());
+            folder.run(&words).gives(one.text());
         }
     }
+}
+
+#[test]
+fn a_first_word_alone_has_help_but_does_nothing() {
+    let folder = Folder::new("arguments-family");
+    let books = folder.run(&["book", "--help"]);
+    assert_eq!(books.status, 0);
+    let usage = "usage: kerbcanopy book COMMAND ..\n\n";
+    assert!(books.text().starts_with(usage), "{}", books.text());
+    let listed = books.text().lines().filter(|line| line.starts_with("  "));
+    assert_eq!(listed.count(), 5);
+    folder.run(&["-h", "book"]).gives(books.text());
+    let see = "see kerbcanopy book --help";
+    folder.run(&["book"]).troubles(&format!(
+        "book needs one of new, check, add, find, list; {see}"
+    ));
+    for words in [&["book", "look"][..], &["book", "look", "--help"]] {
+        folder
+            .run(words)
+            .troubles(&format!("there is no command book look; {see}"));
+    }
+    folder
+        .run(&["book check", "a"])
+        .troubles("there is no command book check; see kerbcanopy --help");
+    // The two words needn't stand side by side.
+    folder.put("a", &plain(4, 200, &[9, 14]));
+    folder.run(&["book", "--", "list", "a"]).gives("9\n14\n");
+    let ran = folder.run(&["book", "--json", "list", "a"]);
+    assert_eq!(ran.json().at("place").number(), 2);
 }
 
 #[test]
@@ -257,9 +322,11 @@ fn the_version_goes_to_standard_output() {
     let version = format!("kerbcanopy {}\n", env!("CARGO_PKG_VERSION"));
     folder.run(&["--version"]).gives(&version);
     folder.run(&["-V"]).gives(&version);
+    folder.run(&["book", "--version"]).gives(&version);
     for command in COMMANDS {
-        folder.run(&[command, "--version"]).gives(&version);
-        folder.run(&["-V", command, "missing"]).gives(&version);
+        folder.run(&with(command, &["--version"])).gives(&version);
+        let words = [vec!["-V"], with(command, &["missing"])].concat();
+        folder.run(&words).gives(&version);
     }
 }
 
@@ -303,7 +370,7 @@ fn steps_of_a_path_that_stand_apart() {
 }
 
 /// Words that are no use of the command, and what is said of them.
-const WRONG: [(&[&str], &str); 21] = [
+const WRONG: [(&[&str], &str); 28] = [
     (&[], "no command; see kerbcanopy --help"),
     (&["--json", "--hex"], "no command; see kerbcanopy --help"),
     (&["look"], "there is no command look; see kerbcanopy --help"),
@@ -364,6 +431,34 @@ const WRONG: [(&[&str], &str); 21] = [
         &["little", "a", "b", "--json", "-o", "-"],
         "little can't give --json and -o - in one; see kerbcanopy little --help",
     ),
+    (
+        &["book", "new", "--capacity=1", "--bytes=99"],
+        "book new needs a FILE; see kerbcanopy book new --help",
+    ),
+    (
+        &["book", "new", "a", "--bytes=99"],
+        "book new needs --capacity; see kerbcanopy book new --help",
+    ),
+    (
+        &["book", "new", "a", "--capacity", "1"],
+        "book new needs --bytes; see kerbcanopy book new --help",
+    ),
+    (
+        &["book", "new", "a", "b", "--capacity=1", "--bytes=99"],
+        "book new can't take b as well; see kerbcanopy book new --help",
+    ),
+    (
+        &["book", "check", "a", "--capacity=1"],
+        "book check takes no --capacity; see kerbcanopy book check --help",
+    ),
+    (
+        &["book", "list", "a", "-o", "b"],
+        "book list takes no -o; see kerbcanopy book list --help",
+    ),
+    (
+        &["book", "find", "a", "9", "--data", "--descriptor"],
+        "book find gives --descriptor or --data, not both; see kerbcanopy book find --help",
+    ),
 ];
 
 #[test]
@@ -386,18 +481,21 @@ fn each_command_has_as_many_files_as_it_needs() {
             "read" => (&["WRITER", "READER", "DATA"][..], 0, false),
             "explain" => (&["DESCRIPTOR", "DATA"][..], 1, false),
             "value" | "view" => (&["DESCRIPTOR", "DATA"][..], 0, true),
-            // Below, with the record that may be left out.
-            "difference" => continue,
+            // Above, with the record that may be left out; and what needs options.
+            "difference" | "book new" => continue,
+            "book check" | "book list" => (&["FILE"][..], 0, false),
+            "book add" => (&["FILE", "DESCRIPTOR", "DATA"][..], 0, false),
+            "book find" => (&["FILE", "ID"][..], 0, false),
             _ => (&["DESCRIPTOR", "DATA"][..], 0, false),
         };
         let see = format!("see kerbcanopy {command} --help");
         for (given, missing) in files[..files.len() - optional].iter().enumerate() {
-            let words = [vec![command], vec!["a"; given]].concat();
+            let words = with(command, &vec!["a"; given]);
             folder
                 .run(&words)
                 .troubles(&format!("{command} needs a {missing}; {see}"));
         }
-        let words = [vec![command], vec!["a"; files.len()], vec!["more"]].concat();
+        let words = [with(command, &vec!["a"; files.len()]), vec!["more"]].concat();
         let trouble = match steps {
             false => format!("{command} can't take more as well; {see}"),
             true => "a: No such file or directory (os error 2)".into(),

@@ -1,5 +1,6 @@
 //! Every refusal number: its line, its JSON and its status.
 
+mod books;
 mod data;
 mod descriptors;
 mod places;
@@ -121,6 +122,11 @@ fn meaning(number: u32) -> &'static str {
         42 => "the writer has no member of this name",
         43 => "the writer has several members of this name",
         44 => "the writer's member of this name is of another type",
+        60 => "the identifier is already in the book",
+        61 => "the book has no free entry",
+        62 => "the book has no room for the body",
+        63 => "the book is not well formed",
+        64 => "the book has no record of this identifier",
         _ => "the output is too small",
     }
 }

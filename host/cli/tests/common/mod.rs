@@ -1,6 +1,7 @@
 //! The command in a folder of a test's own: files put there, words given, and
 //! what came of it.
 
+pub mod books;
 pub mod descriptors;
 pub mod json;
 

@@ -1,5 +1,5 @@
-//! The numbers of document 01 whose limits must be met: each with the values at
-//! which it is counted.
+//! The numbers of documents 01 and 02 whose limits must be met: each with the values
+//! at which it is counted.
 
 /// A number that is counted.
 #[derive(Clone, Copy)]
@@ -48,12 +48,21 @@ pub enum Of {
     At42,
     At43,
     At44,
+    Book,
+    NoBook,
+    Capacity,
+    WrongCapacity,
+    InUse,
+    BadEntry,
+    At60,
+    TooFew,
+    StillFree,
 }
 
 type Line = (Of, &'static str, &'static [u32]);
 
 /// Every number, in the order of the enum.
-pub const LINES: [Line; 44] = [
+pub const LINES: [Line; 53] = [
     (Of::Length, "bytes", &[4, 6, 4090, 4092, 4094, 4096]),
     (Of::TooLong, "bytes refused", &[4097, 4098, 4099]),
     (Of::Rows, "rows", &[1, 2, 3, 254, 255, 256]),
@@ -141,6 +150,27 @@ pub const LINES: [Line; 44] = [
     (Of::At42, "member, with 42", &[0, 1, 2, 253, 254]),
     (Of::At43, "member, with 43", &[0, 1, 2, 252, 253]),
     (Of::At44, "member, with 44", &[0, 1, 2, 253, 254]),
+    (
+        Of::Book,
+        "bytes of a book",
+        &[4, 5, 20, 65534, 65535, 65536],
+    ),
+    (
+        Of::NoBook,
+        "bytes of a book refused",
+        &[0, 1, 2, 3, 65537, 65538],
+    ),
+    (Of::Capacity, "capacity", &[0, 1, 2, 3, 4094, 4095]),
+    (
+        Of::WrongCapacity,
+        "capacity, with 63",
+        &[0, 1, 2, 3, 4095, 4096, 65535],
+    ),
+    (Of::InUse, "entries in use", &[0, 1, 2, 3, 1819, 1820]),
+    (Of::BadEntry, "entry, with 63", &[0, 1, 2, 3, 9]),
+    (Of::At60, "entry, with 60", &[0, 1, 2, 1818, 1819]),
+    (Of::TooFew, "bytes too few, with 62", &[1, 2, 20]),
+    (Of::StillFree, "bytes left free", &[0, 1, 2]),
 ];
 
 /// The most values that a number is counted at.

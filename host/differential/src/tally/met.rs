@@ -6,7 +6,7 @@ use crate::entry::ENTRIES;
 use crate::kind::{Area, KINDS, Known};
 
 /// Every number with the input at fault.
-pub const ANSWERS: [(u32, u32); 39] = [
+pub const ANSWERS: [(u32, u32); 44] = [
     (0, 0),
     (1, 1),
     (2, 1),
@@ -46,24 +46,36 @@ pub const ANSWERS: [(u32, u32); 39] = [
     (43, 2),
     (44, 2),
     (50, 4),
+    (60, 4),
+    (61, 4),
+    (62, 4),
+    (63, 4),
+    (64, 4),
 ];
 
 /// Every number that the questions can answer.
-pub const NUMBERS: [u32; 27] = [
+pub const NUMBERS: [u32; 32] = [
     0, 1, 2, 3, 4, 5, 6, 7, 8, 9, 10, 11, 12, 20, 21, 22, 23, 25, 30, 31, 32, 40, 41, 42, 43, 44,
-    50,
+    50, 60, 61, 62, 63, 64,
 ];
 
 /// What the cases are about.
-pub const AREAS: [Area; 4] = [Area::Descriptor, Area::Data, Area::Record, Area::Interval];
+pub const AREAS: [Area; 5] = [
+    Area::Descriptor,
+    Area::Data,
+    Area::Record,
+    Area::Interval,
+    Area::Store,
+];
 
 /// The numbers that the first question about a case is counted by.
 pub fn numbers(area: Area) -> &'static [u32] {
     match area {
         Area::Descriptor => &NUMBERS[..13],
         Area::Data => &NUMBERS[..18],
-        Area::Record => &NUMBERS,
+        Area::Record => &NUMBERS[..27],
         Area::Interval => &[0, 32],
+        Area::Store => &[0, 63],
     }
 }
 
@@ -106,6 +118,7 @@ pub fn kinds(area: Area) -> Table {
         Area::Data => "data by kind",
         Area::Record => "records by kind",
         Area::Interval => "stamps by kind",
+        Area::Store => "books by kind",
     };
     let numbers = numbers(area);
     Table::new(title, texts(numbers), columns, |row, column| {

@@ -1,5 +1,7 @@
 //! Descriptors and answers put together by hand.
 
+pub mod book;
+
 use reference::{Answer, Row, check_descriptor};
 
 /// A descriptor of this code with these bytes behind the header.
@@ -36,6 +38,16 @@ pub fn array(dimensions: u8, element: &[u8]) -> Vec<u8> {
 pub fn cluster(members: &[Vec<u8>]) -> Vec<u8> {
     let count = (members.len() as u16).to_be_bytes();
     descriptor(0x50, &[&count[..], &members.concat()].concat())
+}
+
+/// The descriptor with this name behind it.
+pub fn named(mut descriptor: Vec<u8>, name: &str) -> Vec<u8> {
+    descriptor.push(name.len() as u8);
+    descriptor.extend(name.bytes());
+    descriptor.resize(descriptor.len().next_multiple_of(2), 0);
+    let size = (descriptor.len() as u16).to_be_bytes();
+    descriptor[..2].copy_from_slice(&size);
+    descriptor
 }
 
 pub fn answer(number: u32, input: u32, place: u32) -> Answer {

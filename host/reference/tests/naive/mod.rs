@@ -1,6 +1,7 @@
 //! A slow walk over data, one element after the other and without a shortcut,
 //! written straight from document 01.
 
+pub mod book;
 pub mod descriptor;
 pub mod random;
 pub mod record;

@@ -16,7 +16,7 @@ returns c =
     let b = c .before .before .before .before in
     let d = now (b .args .d) in
     let s = now (b .args .s) in
-    (c .refuse .ensures ∙ data-long d (b .pre .0) s (c .before .if1 .taken), refused-top d s _ _ _ _ (c .refuse .ensures) (omega arith))
+    (c .refuse .ensures ∙ data-long d (b .pre .0) s (c .before .if1 .taken), refused-top d s _ _ _ _ (c .refuse .ensures) (omega arith) (b .pre .1))
 
 top-row-requires : tie.Need-top-row-requires
 top-row-requires c κs = c .before .before .before .pre .0
@@ -45,7 +45,7 @@ returns-3 c =
     let d = now (b .args .d) in
     let s = now (b .args .s) in
     let on = not-false _ (c .before .before .if2 .left) in
-    (c .refuse2 .ensures ∙ data-over d (b .pre .0) s (omega (arith, c .before .before .before .before .before .before .before .if1 .left)) _ (c .before .before .before .before .before .before .top-row .ensures) _ (c .before .before .before .before .walk-members .ensures .0) on (λ e. c .before .if3 .taken e), refused-top d s _ _ _ _ (c .refuse2 .ensures) (data-end d (b .pre .0) s (omega (arith, c .before .before .before .before .before .before .before .if1 .left)) _ (c .before .before .before .before .before .before .top-row .ensures) _ (c .before .before .before .before .walk-members .ensures .0) on))
+    (c .refuse2 .ensures ∙ data-over d (b .pre .0) s (omega (arith, c .before .before .before .before .before .before .before .if1 .left)) _ (c .before .before .before .before .before .before .top-row .ensures) _ (c .before .before .before .before .walk-members .ensures .0) on (λ e. c .before .if3 .taken e), refused-top d s _ _ _ _ (c .refuse2 .ensures) (data-end d (b .pre .0) s (omega (arith, c .before .before .before .before .before .before .before .if1 .left)) _ (c .before .before .before .before .before .before .top-row .ensures) _ (c .before .before .before .before .walk-members .ensures .0) on) (c .before .before .before .before .walk-members .ensures .1 .long))
 
 returns-4 : tie.Need-returns-4
 returns-4 c =

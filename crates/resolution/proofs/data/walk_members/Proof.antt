@@ -2,6 +2,7 @@
 use mathlib.Core.Path.{sym, ap, _∙_}
 use Prim.Native.Nat.{ℕ, _+_, _-_}
 use native.Mathlib.Omega.{arith}
+use lib.ListN.{length-set}
 use denote.Ref.{now}
 use borrow.Author.Needs.{needs}
 use Rattle.descriptor.proofs.Bodies.{header-room}
@@ -47,7 +48,7 @@ returns c =
     let l = c .before .before .before .before .before .before .before .loop in (
       c .refuse .ensures ∙ walk-lost (now (b .args .d)) (b .args .k) (b .args .start) (now (b .args .s)) (b .pre .0) (l .starts) (l .p) (l .next .at) (l .i) (l .inv) (c .before .before .before .before .before .before .loop-test .taken) _ _
           (sym (c .before .before .r .given .1) ∙ c .before .before .before .before .walk-member .ensures),
-      refused-starts _ _ _ _ _ _ (c .refuse .ensures),
+      refused-starts _ _ _ _ _ _ (c .refuse .ensures) (length-set (l .starts) (l .i) (l .next .at) ∙ l .inv .long),
     )
 
 enum-known-r-2 : tie.Need-enum-known-r-2 Inv-loop μ-loop

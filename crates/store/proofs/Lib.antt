@@ -1,0 +1,10 @@
+pub mod Entries
+pub mod Seeking
+pub mod Marking
+pub mod Identified
+pub mod Steady
+pub mod Judging
+pub mod Zeros
+pub mod Opening
+pub mod Asked
+pub mod Adding

@@ -1,0 +1,5 @@
+pub mod Book
+pub mod Layout
+pub mod Check
+pub mod Questions
+pub mod inner
