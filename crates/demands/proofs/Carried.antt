@@ -10,8 +10,8 @@ use Rattle.descriptor.specs.Tree.{Tree, node, Forest, nil, cons, members}
 use Rattle.descriptor.proofs.Outcomes.{holds-read}
 use Rattle.flattened.specs.Order.{big}
 use Rattle.flattened.specs.Token.{Token, joined}
-use Rattle.values.specs.Value.{Value, parts, Values, none, also, Fits, cluster, EachFits, done, member, flatten, flattenMembers, Data}
-use Rattle.values.proofs.Places.{Here, here-whole, here-first, here-second, here-up-to}
+use Rattle.values.specs.Value.{Value, parts, Values, none, also, Fits, cluster, EachFits, done, member, flatten, flattenMembers, Data, Here}
+use Rattle.values.proofs.Places.{here-whole, here-first, here-second, here-up-to}
 use Rattle.values.proofs.Complete.{value-walks}
 use Rattle.demands.proofs.Shape.{Rig, FoundOnce, Gives, first, after, Gets, nothing, more}
 use Rattle.demands.proofs.Pieces.{goes-walk}

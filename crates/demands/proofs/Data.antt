@@ -19,9 +19,10 @@ use Rattle.flattened.specs.Order.{big}
 use Rattle.flattened.specs.Token.{Token, joined, Chain}
 use Rattle.flattened.specs.Walk.{walk, walked}
 use Rattle.flattened.specs.Answers.{dataCheck}
-use Rattle.values.specs.Value.{Data}
+use Rattle.values.specs.Value.{Value, Fits, flatten, Data}
+use Rattle.values.specs.Pieces.{pieces}
 use Rattle.values.proofs.Accepted.{one-value}
-use Rattle.values.proofs.Answers.{answer-exactly}
+use Rattle.values.proofs.Answers.{data-answer, answer-exactly}
 use Rattle.values.proofs.Chained.{accepted-chain, accepted-whole}
 use Rattle.flattened.proofs.Refusals.{refused-number}
 use Rattle.demands.proofs.Accepted.{Described, described-read}
@@ -95,6 +96,11 @@ module _ (d : List ℕ) (x : Described d) (s : List ℕ) where
           chain = accepted-chain big (x .tree) (x .limits .formed) s bytes (length s) (w .0) (w .1);
           whole = accepted-whole big (x .tree) (x .limits .formed) s bytes (length s) (w .0) (w .1);
         }
+
+  -- "Data check (place is the piece count).": of the bytes of a value, as many as the value has pieces, whatever the walk makes of them
+  pub piece-count : (v : Value) → Fits (x .tree) v → length (flatten big (x .tree) v) ≤ dataLimit
+      → dataCheck d (flatten big (x .tree) v) ≡ accepted (length (pieces (x .tree) v))
+  piece-count v fits short = data-answer d (length d) (x .tree) (described-read d x) v fits short
 
   -- and data is of one value
   pub one-data : (v w : Data big (x .tree) s) → v .value ≡ w .value

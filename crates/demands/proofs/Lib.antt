@@ -6,6 +6,7 @@ pub mod Rows
 pub mod Frame
 pub mod Data
 pub mod Turned
+pub mod First
 pub mod Shape
 pub mod Pieces
 pub mod Parts

@@ -31,10 +31,10 @@ use Rattle.access.specs.declared.part.Part.{Part}
 use Rattle.reading.specs.declared.value.Value.{Value as Given}
 use Rattle.reading.specs.declared.value.Value.the-variants.{Nothing}
 use Rattle.reading.proofs.Values.{inside, value-none}
-use Rattle.values.specs.Value.{Value, numbers, characters, elements, parts, Values, count, AllBelow, Scalar, Fits, plain, enumeration, quantity, string, array, cluster, stamp, AllFit, without, element, EachFits, done, member, inOrder, flatten, flattenElements, flattenMembers, Data}
+use Rattle.values.specs.Value.{Value, numbers, characters, elements, parts, Values, count, AllBelow, Scalar, Fits, plain, enumeration, quantity, string, array, cluster, stamp, AllFit, without, element, EachFits, done, member, inOrder, flatten, flattenElements, flattenMembers, Data, Here}
 use Rattle.byteorder.specs.Reversal.{numberCount, numberWidth}
 use Rattle.values.specs.Pieces.{piecesAt}
-use Rattle.values.proofs.Places.{Here, here-whole, here-first, here-second}
+use Rattle.values.proofs.Places.{here-whole, here-first, here-second}
 use Rattle.values.proofs.Numbers.{number-read, length-inOrder}
 use Rattle.values.proofs.Scalars.{lone-width}
 use Rattle.values.proofs.Complete.{value-walks, sizes-walk, sizes-product}

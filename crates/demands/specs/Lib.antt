@@ -5,3 +5,4 @@ pub mod LentCases
 pub mod Refusals
 pub mod StampCases
 pub mod FlagCases
+pub mod OrderCases

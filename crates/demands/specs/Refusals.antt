@@ -7,7 +7,7 @@ use mathlib.Core.List.{List, [], _∷_, _++_}
 use Prim.Native.Nat.{ℕ, zero, suc, _+_, _*_}
 use lib.ListN.{replicate}
 use Rattle.number.specs.Endian.{be, beBytes}
-use Rattle.descriptor.specs.Limits.{descriptorLimit, rowLimit, depthLimit, dimensionLimit, pairLimit, baseLimit, countLimit, dataLimit, lengthLimit}
+use Rattle.descriptor.specs.Limits.{descriptorLimit, rowLimit, depthLimit, dimensionLimit, pairLimit, baseLimit, countLimit, dataLimit, lengthLimit, highBit, fixedWord}
 use Rattle.descriptor.specs.Codes.{Kind, plain, enumeration, quantity, string, array, cluster, stamp, unknown, kindOf}
 use Rattle.descriptor.specs.Tree.{childCount, countOf, itemsSize, fieldsSize, nameSize, treeSize, forestSize, rowCount, forestRows}
 use Rattle.descriptor.specs.Encoding.{word}
@@ -141,10 +141,10 @@ unfolding be beBytes kindOf childCount countOf itemsSize fieldsSize nameSize tre
 order = (refl, refl, refl, refl, refl, refl, refl, refl, refl, refl, refl, refl, refl, refl)
 
 -- "H limits: descriptor 4,096 bytes; 256 rows; depth 8 ..; array dimensions 1 to 4; unit pairs 1 to 9; .. data 65,536 bytes", "a 16-bit base
--- index 0 to 8", "Lengths and sizes are below 2^31"
+-- index 0 to 8", "Lengths and sizes are below 2^31", "size word's high bit", "the word FFFFFFFF"
 pub limits : (descriptorLimit ≡ 4096) × (rowLimit ≡ 256) × (depthLimit ≡ 8) × (dimensionLimit ≡ 4) × (pairLimit ≡ 9) × (baseLimit ≡ 8) × (countLimit ≡ 65535)
-    × (dataLimit ≡ 65536) × (lengthLimit ≡ 2147483648)
-limits = (refl, refl, refl, refl, refl, refl, refl, refl, refl)
+    × (dataLimit ≡ 65536) × (lengthLimit ≡ 2147483648) × (highBit ≡ 32768) × (fixedWord ≡ 4294967295)
+limits = (refl, refl, refl, refl, refl, refl, refl, refl, refl, refl, refl)
 
 -- at the limits, and one past them
 pub limit-cases : (answer (nested 7 0x03) ≡ accepted 8)

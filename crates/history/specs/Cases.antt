@@ -345,8 +345,11 @@ pub own-orders :
     × (added bare lone (0 ∷ 0 ∷ 9 ∷ []) ≡ unwritten bare 21 3 0)
     × (added bare other (few 9 ++ (0 ∷ [])) ≡ unwritten bare 25 3 4)
     × (added bare (0x00 ∷ 0x1A ∷ 0x00 ∷ 0x50 ∷ 0x00 ∷ 0x02 ∷ (member 0x07 ++ member 0x03)) (few 9 ++ few 9) ≡ unwritten bare 43 2 0)
+    -- the descriptor's and 20; 63, 1 and 20
+    × (added bare (sets rig 9 (0x00 ∷ [])) (replicate 65537 0) ≡ unwritten bare 5 1 9)
+    × (added (take 35 bare) (replicate 4097 0) (replicate 65537 0) ≡ unwritten (take 35 bare) 63 4 2)
 unfolding be beBytes kindOf childCount countOf itemsSize fieldsSize nameSize treeSize forestSize rowCount forestRows headerAt countAt runAt itemAt itemsAt pairsAt fieldsRead judged contentsAt fillAt filledAt fieldsAt membersAt nameAt nodeAt treeAt checked namePlace nameLength rowOf writtenTo sameList sameName itemsOf pairsOf sameTree sameForest widthOf numberAt scalarAt textAt sizesAt sizesFit product arrayAt repeat walkFields walk walkAll walked membersFrom writerFields isAmong readerNames readerFields matches namesakes searched searchNumber memberFound memberBytes joinedBytes recordBytes identified isOneOf entryBytes endFrom blankAt says isBlank entryFits entryAt entriesAt zeroAt unusedAt filled opened bookCheck newBook withRecord entryOf found identifiers listed absent admitted entered added
-own-orders = (refl, refl, refl, refl)
+own-orders = (refl, refl, refl, refl, refl, refl)
 
 -- the order of the refusals of an add: 63 before all others, then the record's own, 60, 61, 62
 pub orders :

@@ -18,9 +18,9 @@ use Rattle.flattened.specs.Token.{TokenKind, scalar, string, sizes, Token, toke
 use Rattle.descriptor.specs.Limits.{lengthLimit}
 use Rattle.flattened.specs.Walk.{token, single, scalarAt, textAt, sizesAt, sizesFit, product, arrayAt, follow, repeat, walkFields, walk, walkAll}
 use Rattle.byteorder.specs.Reversal.{reverseEach, reverseToken, reversed, numberWidth}
-use Rattle.values.specs.Value.{Value, Values, count, AllBelow, Scalar, Fits, plain, enumeration, quantity, array, cluster, stamp, AllFit, without, element, EachFits, done, member, other, ordered, inOrder, flatten, flattenElements, flattenMembers}
+use Rattle.values.specs.Value.{Value, Values, count, AllBelow, Scalar, Fits, plain, enumeration, quantity, array, cluster, stamp, AllFit, without, element, EachFits, done, member, other, ordered, inOrder, flatten, flattenElements, flattenMembers, Here}
 use Rattle.values.specs.Pieces.{piecesAt, elementPieces, memberPieces}
-use Rattle.values.proofs.Places.{Here, here-up-to, here-first, here-second}
+use Rattle.values.proofs.Places.{here-up-to, here-first, here-second}
 use Rattle.values.proofs.Numbers.{length-ordered, number-read, length-inOrder, numbersAt, numbers-read, first-reversed, inOrder-reversed, below-less}
 use Rattle.values.proofs.Scalars.{lone-width, scalar-length}
 use Rattle.values.proofs.Lengths.{value-length}
@@ -194,7 +194,7 @@ module _ (o : Order) (s : List ℕ) where
     value-walks (stamp h) p e = members-walk h p e
 
     -- an array's elements
-    elements-walk : {t : Tree} {vs : Values} → AllFit t vs → (p : ℕ) → Here s p (flattenElements o (cons t nil) vs)
+    pub elements-walk : {t : Tree} {vs : Values} → AllFit t vs → (p : ℕ) → Here s p (flattenElements o (cons t nil) vs)
         → Walks s (p + length (flattenElements o (cons t nil) vs)) (elementPieces p (cons t nil) vs) (flattenElements (other o) (cons t nil) vs)
         (repeat (λ q. walkAll o (cons t nil) s q) (count vs) p)
     elements-walk without p e = walks-as (let z : p ≡ p + 0 = omega arith in z) refl refl (walks-none s p)

@@ -12,3 +12,4 @@ pub mod Forms
 pub mod Answers
 pub mod Cases
 pub mod Chained
+pub mod Refused

@@ -15,8 +15,8 @@ use Rattle.descriptor.specs.Encoding.{Bytes}
 use Rattle.flattened.specs.Order.{Order, big, little, numberAt}
 use Rattle.byteorder.specs.Reversal.{reverseEach}
 use Rattle.encoding.proofs.Slices.{append-apart, slice-take, slice-be, be-slice, bytes-at}
-use Rattle.values.specs.Value.{AllBelow, other, ordered, inOrder}
-use Rattle.values.proofs.Places.{Here, here-up-to, here-by, here-none, here-whole, here-first, here-second, here-then}
+use Rattle.values.specs.Value.{AllBelow, other, ordered, inOrder, Here}
+use Rattle.values.proofs.Places.{here-up-to, here-by, here-none, here-whole, here-first, here-second, here-then}
 
 -- w bytes
 pub length-ordered : (o : Order) (w n : ℕ) → length (ordered o w n) ≡ w

@@ -6,11 +6,7 @@ use native.Mathlib.Omega.{arith}
 use lib.ListN.{length, length-append}
 use lib.Seq.{slice, slice-empty, length-slice}
 use Rattle.encoding.proofs.Slices.{slice-all, slice-then, slice-split}
-
--- x stands in s from p on
-pub record Here (s : List ℕ) (p : ℕ) (x : List ℕ) : Type 0 where
-  pub within : p + length x ≤ length s
-  pub bytes : slice p (p + length x) s ≡ x
+use Rattle.values.specs.Value.{Here}
 
 -- up to any place that is as far
 pub here-up-to : (s : List ℕ) (p q : ℕ) (x : List ℕ) → Here s p x → q ≡ p + length x → slice p q s ≡ x

@@ -19,9 +19,9 @@ use Rattle.descriptor.specs.Width.{widthOf}
 use Rattle.flattened.specs.Order.{Order, numberAt}
 use Rattle.descriptor.specs.Limits.{lengthLimit}
 use Rattle.flattened.specs.Walk.{scalarAt, textAt, sizesAt, sizesFit, product, arrayAt, repeat, walkFields, walk, walkAll}
-use Rattle.values.specs.Value.{Value, numbers, characters, elements, parts, Values, none, also, count, AllBelow, Scalar, Fits, plain, enumeration, quantity, string, array, cluster, stamp, AllFit, without, element, EachFits, done, member, ordered, inOrder, flatten, flattenElements, flattenMembers}
+use Rattle.values.specs.Value.{Value, numbers, characters, elements, parts, Values, none, also, count, AllBelow, Scalar, Fits, plain, enumeration, quantity, string, array, cluster, stamp, AllFit, without, element, EachFits, done, member, ordered, inOrder, flatten, flattenElements, flattenMembers, Here}
 use Rattle.byteorder.specs.Reversal.{numberCount, numberWidth}
-use Rattle.values.proofs.Places.{Here, here-by, here-none, here-then}
+use Rattle.values.proofs.Places.{here-by, here-none, here-then}
 use Rattle.values.proofs.Numbers.{length-ordered, number-stands, numbersAt, length-numbersAt, length-inOrder, numbers-stand}
 use Rattle.values.proofs.Scalars.{scalarNumbers, fill-width, scalar-length, scalar-there, enumeration-number}
 use Rattle.values.proofs.Complete.{sizes-numbers, sizes-product}
@@ -49,7 +49,7 @@ record ElementsStand (o : Order) (s : List ℕ) (e : Tree) (n p q : ℕ) : Type 
   end : q ≡ p + length (flattenElements o (cons e nil) values)
 
 -- sizes that pass their test
-sizes-below : (ns : List ℕ) → sizesFit ns ≡ true → AllBelow lengthLimit ns
+pub sizes-below : (ns : List ℕ) → sizesFit ns ≡ true → AllBelow lengthLimit ns
 unfolding sizesFit AllBelow
 sizes-below [] e = tt
 sizes-below (n ∷ ns) e =

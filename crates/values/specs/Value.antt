@@ -1,8 +1,9 @@
 -- What data is, from document 01, "How data is walked", apart from the walk: values, which of them a type has, and their bytes.
 use mathlib.Core.Path.{_≡_}
 use mathlib.Core.List.{List, [], _∷_, _++_, foldr}
-use Prim.Native.Nat.{ℕ, suc, _*_, _^_, _<_}
+use Prim.Native.Nat.{ℕ, suc, _+_, _*_, _^_, _≤_, _<_}
 use lib.ListN.{length}
+use lib.Seq.{slice}
 use Rattle.number.specs.Endian.{beBytes, leBytes}
 use Rattle.descriptor.specs.Tree.{Name, Pair, empty, items, pairs, text, dimensions, members, subtype, Tree, node, Forest, nil, cons}
 use Rattle.descriptor.specs.Limits.{lengthLimit}
@@ -109,6 +110,11 @@ unfoldable mutual
   flattenMembers o f none = []
   flattenMembers o nil (also v vs) = []
   flattenMembers o (cons t f) (also v vs) = flatten o t v ++ flattenMembers o f vs
+
+-- x stands in s from p on
+pub record Here (s : List ℕ) (p : ℕ) (x : List ℕ) : Type 0 where
+  pub within : p + length x ≤ length s
+  pub bytes : slice p (p + length x) s ≡ x
 
 -- s is data of the type t in the order o: a value's bytes
 pub record Data (o : Order) (t : Tree) (s : List ℕ) : Type 0 where
