@@ -9,9 +9,9 @@ pythondir = $(libdir)/kerbcanopy
 bashcompletiondir = $(datadir)/bash-completion/completions
 zshcompletiondir = $(datadir)/zsh/site-functions
 
-# The version is that of host/Cargo.toml, and host/install/run holds the header's against it; its first number is the shared library's.
+# The version is that of host/Cargo.toml; tests hold all others against it. Its first two numbers are in the shared library's name.
 VERSION := $(shell sed -n 's/^version = "\(.*\)"/\1/p' host/Cargo.toml)
-SONAME := libkerbcanopy.so.$(firstword $(subst ., ,$(VERSION)))
+SONAME := libkerbcanopy.so.$(basename $(VERSION))
 SHARED := target/shared/libkerbcanopy.so.$(VERSION)
 
 MINUTES ?= 10
@@ -30,7 +30,7 @@ PLACE = DESTDIR='$(DESTDIR)' version='$(VERSION)' prefix='$(PREFIX)' bindir='$(b
     libdir='$(libdir)' mandir='$(mandir)' pkgconfigdir='$(pkgconfigdir)' pythondir='$(pythondir)' \
     bashcompletiondir='$(bashcompletiondir)' zshcompletiondir='$(zshcompletiondir)' host/install/place
 
-.PHONY: help run test bench fuzz memcheck shared install uninstall clean library command
+.PHONY: help run test bench fuzz memcheck shared picture install uninstall clean library command
 
 help: ## this list
 	@awk -F ':.*## ' '/^[a-z]+:.*## / { printf "make %-9s %s\n", $$1, $$2 }' Makefile
@@ -55,6 +55,10 @@ memcheck: library ## the differential test under valgrind, every buffer exactly 
 
 shared: $(SHARED) ## the shared library, target/shared/libkerbcanopy.so
 	@:
+
+picture: ## the crates by layer, docs/crates.svg, out of crates.txt
+	@mkdir -p target
+	@python3 host/picture/crates.py > target/crates.svg && cp target/crates.svg docs/crates.svg
 
 install: command shared ## libraries, header, command, man page, completion and Python module, below PREFIX (/usr/local)
 	@$(PLACE) put

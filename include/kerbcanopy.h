@@ -6,8 +6,13 @@
  * show: that as many of them can be read, or in an output written, as the length says, that the steps, the identifiers, and numbers lent
  * for an answer, are aligned, that nothing else changes them during the call, and that an output overlaps no input and no other output; a
  * book that a record is added to is an output, so the record stands outside of it. Where the length is 0 the pointer may be NULL: nothing
- * is read or written through it. The difference of two time stamps takes numbers alone, and any will do. Nothing is kept between calls,
- * and nothing is allocated.
+ * is read or written through it. The difference of two time stamps takes numbers alone, and any will do; the version takes nothing. Nothing
+ * is kept between calls, and nothing is allocated.
+ *
+ * A version is three numbers. Before 1.0 the second goes up with any change of a struct's layout, of a number, of a place or of what an
+ * entry means, and the third with what only adds. So a program works with every library whose first two numbers are those of the header
+ * that it was built with and whose third is no lower. The shared library's name carries the first two, so that the loader takes no other;
+ * what it took, kc_version() says, and KC_VERSION_NUMBER is what the program was built with.
  *
  * Every answer has a number, the input at fault and a place.
  *
@@ -88,11 +93,12 @@
 #include <stddef.h>
 #include <stdint.h>
 
-/* The version of this header and of the library that it belongs to. */
+/* The version of this header and of the library that it belongs to: in parts, in words, and as kc_version() says it. */
 #define KC_VERSION_MAJOR 0
-#define KC_VERSION_MINOR 1
+#define KC_VERSION_MINOR 2
 #define KC_VERSION_PATCH 0
-#define KC_VERSION "0.1.0"
+#define KC_VERSION "0.2.0"
+#define KC_VERSION_NUMBER (KC_VERSION_MAJOR * 65536u + KC_VERSION_MINOR * 256u + KC_VERSION_PATCH)
 
 /* The limits. The top of a descriptor is at depth 1; lengths and sizes in data are at most KC_MAX_LENGTH. */
 #define KC_MAX_DESCRIPTOR 4096
@@ -388,6 +394,13 @@ kc_part kc_store_find(const uint8_t *store, size_t store_len, uint32_t identifie
  * Refused: 63 with input 4; or 50 with input 4 where there are too few places, the place being that count. Nothing is written.
  */
 kc_answer kc_store_list(const uint8_t *store, size_t store_len, uint32_t *identifiers, size_t identifiers_len);
+
+/*
+ * Says which version the library is: the first number times 65,536, the second times 256 and the third, added up, so that a later version
+ * is a greater number. It refuses nothing, and returns a plain number, which every caller can take. A library without this entry is older
+ * than 0.2.0.
+ */
+uint32_t kc_version(void);
 
 /*
  * The same questions for callers that can't take a struct by value, such as LabVIEW's Call Library Function node. Each of these takes what

@@ -23,7 +23,8 @@ blank in it yet:
     True
 
 The library is the one that the variable KERBCANOPY_LIBRARY names; else the one that stands by this file, as `make install` or, in a
-clone, `make shared` puts it; else the one that the system's loader finds.
+clone, `make shared` puts it; else the one that the system's loader finds. Its version has the first two numbers of `__version__` and a
+third that is no lower; another one is an ImportError.
 """
 
 from __future__ import annotations
@@ -42,6 +43,9 @@ __all__ = [
     "normal_form_into", "read_record", "read_record_into", "read_value", "stamp_difference", "store_add", "store_check", "store_find",
     "store_list", "to_little_endian", "to_little_endian_into", "view",
 ]
+
+#: The version of this module, which is that of the library it was made with.
+__version__ = "0.2.0"
 
 Bytes = Union[bytes, bytearray, memoryview]
 Room = Union[bytearray, memoryview]
@@ -251,7 +255,8 @@ class _Difference(ctypes.Structure):
     _fields_ = [("answer", _Answer), ("seconds", ctypes.c_int64), ("fraction", ctypes.c_uint64)]
 
 
-_SONAME = "libkerbcanopy.so.0"
+_NEEDED = tuple(int(number) for number in __version__.split("."))
+_SONAME = f"libkerbcanopy.so.{_NEEDED[0]}.{_NEEDED[1]}"
 
 
 def _library_name() -> str:
@@ -278,9 +283,30 @@ def _loaded(name: str) -> ctypes.CDLL:
         ) from trouble
 
 
+def _hold_version(library: ctypes.CDLL, name: str) -> None:
+    """Takes only a library that has what this module knows, with the same meaning."""
+    try:
+        entry = library.kc_version
+    except AttributeError:
+        found = "says no version, so it is older than 0.2.0"
+    else:
+        entry.restype, entry.argtypes = ctypes.c_uint32, []
+        number = entry()
+        version = (number >> 16, number >> 8 & 255, number & 255)
+        if version[:2] == _NEEDED[:2] and version >= _NEEDED:
+            return
+        found = "is version " + ".".join(str(part) for part in version)
+    raise ImportError(
+        f"the library {name} {found}; this module needs {__version__}, or a later one that starts with {_NEEDED[0]}.{_NEEDED[1]}",
+        name=__name__,
+        path=name,
+    )
+
+
 #: The shared library that was loaded.
 LIBRARY = _library_name()
 _library = _loaded(LIBRARY)
+_hold_version(_library, LIBRARY)
 
 _INPUT: Tuple[Any, ...] = (ctypes.c_char_p, ctypes.c_size_t)
 _OUTPUT: Tuple[Any, ...] = (ctypes.c_void_p, ctypes.c_size_t)

@@ -8,9 +8,15 @@ runs this and test_properties.py, which needs Debian's python3-hypothesis (apt-g
 from __future__ import annotations
 
 import math
+import os
+import pathlib
 import pickle
+import re
+import subprocess
+import sys
+import tempfile
 import unittest
-from typing import Any, Callable, Dict, List, Tuple
+from typing import Any, Callable, Dict, List, Optional, Tuple
 
 import kerbcanopy
 from kerbcanopy import Difference, Kind, Refusal, Row, Stamp, Value
@@ -481,6 +487,53 @@ class Books(Case):
         for wrong in (book(1, free=20), memoryview(book(1, free=20)), memoryview(bytearray(80))[::2], "text", None):
             with self.assertRaises((TypeError, BufferError)):
                 kerbcanopy.store_add(wrong, BLANK, blank(9))  # type: ignore[arg-type]
+
+
+class Versions(unittest.TestCase):
+    """Which libraries are taken by a module that is 3.4.5. Each has a version and nothing else, or the names of all entries too."""
+
+    def setUp(self) -> None:
+        folder = tempfile.TemporaryDirectory()
+        self.addCleanup(folder.cleanup)
+        self.folder = pathlib.Path(folder.name)
+        source = pathlib.Path(kerbcanopy.__file__).read_text(encoding="utf-8")
+        self.entries = re.findall(r'_entry\("(kc_\w+)"', source)
+        source, changed = re.subn(r'^__version__ = ".*"$', '__version__ = "3.4.5"', source, flags=re.M)
+        self.assertEqual(changed, 1)
+        (self.folder / "kerbcanopy.py").write_text(source, encoding="utf-8")
+
+    def imported(self, version: Optional[Tuple[int, int, int]], *entries: str) -> str:
+        """The last line of what an import says with a library of this version, or of none."""
+        lines = [f"void {name}(void) {{}}" for name in entries]
+        if version is not None:
+            major, minor, patch = version
+            lines.append(f"unsigned kc_version(void) {{ return {major << 16 | minor << 8 | patch}; }}")
+        library = str(self.folder / "library.so")
+        subprocess.run(["gcc", "-shared", "-fPIC", "-x", "c", "-", "-o", library], input="\n".join(lines), text=True, check=True)
+        run = subprocess.run(
+            [sys.executable, "-s", "-B", "-c", "import kerbcanopy; print(kerbcanopy.__version__)"],
+            env={**os.environ, "PYTHONPATH": str(self.folder), "KERBCANOPY_LIBRARY": library},
+            stdout=subprocess.PIPE, stderr=subprocess.STDOUT, text=True,
+        )
+        return run.stdout.splitlines()[-1].replace(library, "LIBRARY")
+
+    def test_the_same_and_what_only_adds_are_taken(self) -> None:
+        self.assertEqual(len(self.entries), 14)
+        for version in ((3, 4, 5), (3, 4, 6), (3, 4, 255)):
+            self.assertEqual(self.imported(version, *self.entries), "3.4.5", version)
+
+    def test_others_are_refused_before_anything_is_looked_up(self) -> None:
+        needed = "this module needs 3.4.5, or a later one that starts with 3.4"
+        for version in ((3, 4, 4), (3, 3, 9), (3, 5, 0), (3, 5, 5), (2, 4, 5), (4, 4, 5), (0, 1, 0), (256, 4, 5)):
+            found = ".".join(map(str, version))
+            self.assertEqual(self.imported(version), f"ImportError: the library LIBRARY is version {found}; {needed}")
+        said = "ImportError: the library LIBRARY says no version, so it is older than 0.2.0; " + needed
+        self.assertEqual(self.imported(None), said)
+        self.assertEqual(self.imported(None, *self.entries), said)
+
+    def test_the_library_that_is_loaded(self) -> None:
+        number = kerbcanopy._library.kc_version()
+        self.assertEqual(f"{number >> 16}.{number >> 8 & 255}.{number & 255}", kerbcanopy.__version__)
 
 
 if __name__ == "__main__":

@@ -328,13 +328,14 @@ static void test_limits(void)
     report(text_of(KC_MAX_LENGTH) == KC_REFUSED_DATA_END && text_of(KC_MAX_LENGTH + 1u) == KC_REFUSED_LENGTH, "limit", "length");
 }
 
-/* The version is that of the host's crates. */
+/* The version is that of the library and of the host's crates. */
 static void test_version(void)
 {
     char parts[32], line[256], wanted[64];
     bool found = false;
     snprintf(parts, sizeof parts, "%d.%d.%d", KC_VERSION_MAJOR, KC_VERSION_MINOR, KC_VERSION_PATCH);
     report(strcmp(parts, KC_VERSION) == 0, "version by its parts", "");
+    report(kc_version() == KC_VERSION_NUMBER, "version of the library", "");
     snprintf(wanted, sizeof wanted, "version = \"%s\"\n", KC_VERSION);
     FILE *crates = fopen("host/Cargo.toml", "r");
     while (crates && fgets(line, sizeof line, crates)) {

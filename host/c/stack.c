@@ -6,7 +6,8 @@
  * each kind of value innermost and with and without others beside it, and a cluster of many members; each is asked whole, cut at every
  * byte and with every byte changed, in its descriptor and in its data. The difference of time stamps is asked of stamps near and far with
  * each of these. A book has each of these as its record, and is asked to add it: as it is, and in a cluster with a blank's identifier. Then
- * the deepest are asked on the smallest stack of a thread, and of the entries that need more on a larger one.
+ * the deepest are asked on the smallest stack of a thread, and of the entries that need more on a larger one. The version, for which there is
+ * nothing to ask, takes what the empty function does.
  */
 #define _DEFAULT_SOURCE
 #include <kerbcanopy.h>
@@ -37,7 +38,8 @@ enum {
     STORE_LIST,
     INTO, /* from here on those that fill lent numbers, in the same order */
     ENTRIES = 2 * INTO,
-    NOTHING = ENTRIES, /* the empty function, called as the first are */
+    VERSION = ENTRIES, /* which takes nothing and has one form */
+    NOTHING,           /* the empty function, called as the first are */
     NOTHING_INTO,      /* as the others are */
     NOTHING_CHECKED,   /* as the first of all is */
     NOTHING_BOOK,      /* as those of books are */
@@ -219,6 +221,9 @@ static void ask(int entry, const question *q) {
     case STAMP_DIFFERENCE:
         answer = kc_stamp_difference(a.high, a.low, a.fraction, a.fraction, b.high, b.low, b.fraction, b.fraction).answer;
         break;
+    case VERSION:
+        answer.number = kc_version();
+        break;
     default:
         nothing();
     }
@@ -344,6 +349,8 @@ static void ask_checked(int entry, const question *q) {
 static int asked_by(int entry) {
     if (entry >= NOTHING)
         return entry - NOTHING;
+    if (entry == VERSION)
+        return 0;
     if (entry == CHECK_DESCRIPTOR)
         return 2;
     return (entry % INTO >= STORE_CHECK ? 3 : 0) + (entry >= INTO);
@@ -609,6 +616,15 @@ static bool compare(FILE *document) {
     return good;
 }
 
+/* The version takes no more than the empty function does, its return address. */
+static bool compare_version(FILE *document, uint8_t *stack) {
+    prepare(&(nesting){"", 'b', "", ""});
+    size_t bound = stated(document, "kc_version"), more = used(stack, STACK, VERSION) - used_without(stack, STACK, VERSION);
+    bool holds = more == 0 && bound == sizeof(void *);
+    printf("%s kc_version: measured %zu bytes above the empty function, stated %zu\n", holds ? "ok" : "not ok", more, bound);
+    return holds;
+}
+
 /* The smallest stack that a thread may have; 4 KiB more for the one entry that it is too small for. */
 static size_t small(int entry) {
     size_t smallest = (size_t)sysconf(_SC_THREAD_STACK_MIN);
@@ -650,8 +666,10 @@ static bool answered(void) {
 int main(int argc, char **argv) {
     FILE *document = argc == 2 ? fopen(argv[1], "r") : NULL;
     must(document != NULL, "stack: the document that states the bounds");
-    measure_all(new_stack(STACK));
+    uint8_t *stack = new_stack(STACK);
+    measure_all(stack);
     bool good = compare(document);
+    good = compare_version(document, stack) && good;
     good = ask_small() && good;
     good = answered() && good;
     fclose(document);

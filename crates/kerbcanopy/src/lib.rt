@@ -2,6 +2,7 @@
 // asks nothing of its caller, and answers exactly what the definition that its contract cites says, refusals included.
 pub mod book;
 pub mod lent;
+pub mod version;
 
 use access::part::Part;
 use canonical::Compared;

@@ -17,6 +17,7 @@ mod raw;
 mod record;
 mod stamp;
 mod store;
+mod version;
 
 pub use data::{check_data, from_little_endian, read_value, to_little_endian, view};
 pub use descriptor::{Compared, check_descriptor, compare, normal_form};
@@ -26,3 +27,4 @@ pub use raw::{Answer, Checked, Difference, Part, Row, Value};
 pub use record::read_record;
 pub use stamp::{Stamp, stamp_difference};
 pub use store::{store_add, store_check, store_find, store_list};
+pub use version::{Version, version};

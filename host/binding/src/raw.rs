@@ -162,6 +162,7 @@ unsafe extern "C" {
         identifiers: *mut u32,
         identifiers_len: usize,
     ) -> Answer;
+    pub(crate) safe fn kc_version() -> u32;
     pub(crate) fn kc_check_descriptor_into(
         descriptor: *const u8,
         descriptor_len: usize,

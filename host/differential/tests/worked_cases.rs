@@ -1,4 +1,4 @@
-//! The worked cases of docs/FORMAT.md, read out of its tables, on the library and
+//! The worked cases of docs/CASES.md, read out of its tables, on the library and
 //! on the second implementation.
 
 use std::collections::HashMap;
@@ -10,14 +10,12 @@ type Cells = Vec<String>;
 /// The rows of the tables under each heading of the worked cases; what stands
 /// before the first heading are the names of bytes.
 fn tables() -> HashMap<String, Vec<Cells>> {
-    let path = Path::new(env!("CARGO_MANIFEST_DIR")).join("../../docs/FORMAT.md");
-    let text = fs::read_to_string(path).expect("it can be read");
-    let (_, cases) = text.split_once("## Worked cases").expect("they are there");
-    let (cases, _) = cases.split_once("\n## ").expect("something follows");
+    let path = Path::new(env!("CARGO_MANIFEST_DIR")).join("../../docs/CASES.md");
+    let cases = fs::read_to_string(path).expect("it can be read");
     let mut tables: HashMap<String, Vec<Cells>> = HashMap::new();
     let mut heading = String::new();
     for line in cases.lines() {
-        if let Some(words) = line.strip_prefix("### ") {
+        if let Some(words) = line.strip_prefix("## ") {
             heading = words.into();
         } else if let Some(row) = line.strip_prefix("| ") {
             let row = row.trim_end().trim_end_matches('|');
