@@ -6,6 +6,7 @@ use std::os::unix::ffi::OsStrExt;
 
 use crate::command::{self, Command, Operand};
 use crate::help::Topic;
+use crate::stream::{self, Stream};
 use crate::words::shown;
 
 /// Everything that an option can ask for.
@@ -235,8 +236,9 @@ impl<'a> Words<'a> {
         if options.descriptor && options.data {
             return Err("gives --descriptor or --data, not both".into());
         }
-        if options.json && options.out.as_deref() == Some(OsStr::new("-")) {
-            return Err("can't give --json and -o - in one".into());
+        let out = options.out.as_deref().filter(|_| options.json);
+        if let Some(out) = out.filter(|out| stream::named(out) == Some(Stream::Output)) {
+            return Err(format!("can't give --json and -o {} in one", shown(out)));
         }
         Ok(())
     }

@@ -171,7 +171,7 @@ fn stamp_agrees(files: &[&[u8]], path: &[u32], part: &Json) {
     let fraction = joined(half(2), half(3));
     assert_eq!(part.at("fraction"), &Json::Number(fraction.to_string()));
     let time = part.at("time").text();
-    assert!(time.starts_with(&crate::date::since_1904(seconds).to_string()));
+    assert!(time.starts_with(&crate::date::since_1904(seconds).iso()));
     let steps: Vec<String> = path.iter().map(u32::to_string).collect();
     let steps: OsString = steps.join(" ").into();
     let both = [steps.clone(), steps];

@@ -62,6 +62,22 @@ impl fmt::Display for Time {
     }
 }
 
+impl Time {
+    /// `1904-01-01T00:00:00`, as ISO 8601 has it. A year that four digits don't hold, or
+    /// before year 0, has a sign and six digits or as many more as it takes: the
+    /// standard leaves their number to be agreed on, and six is ECMAScript's.
+    pub fn iso(&self) -> String {
+        let year = match self.year {
+            year @ 0..=9_999 => format!("{year:04}"),
+            year => format!("{year:+07}"),
+        };
+        format!(
+            "{year}-{:02}-{:02}T{:02}:{:02}:{:02}",
+            self.month, self.day, self.hour, self.minute, self.second,
+        )
+    }
+}
+
 #[cfg(test)]
 mod tests {
     use super::*;
@@ -154,6 +170,25 @@ mod tests {
         assert_eq!(before(1), "0000-12-31 23:59:59");
         assert_eq!(before(0), "-0001-12-31 23:59:59");
         assert_eq!(before(10_000), "9999-12-31 23:59:59");
+    }
+
+    #[test]
+    fn years_by_the_standard() {
+        let first = |year| since_1904(DAY * slow_days(year, 1, 1)).iso();
+        for (year, text) in [
+            (1904, "1904-01-01T00:00:00"),
+            (1, "0001-01-01T00:00:00"),
+            (0, "0000-01-01T00:00:00"),
+            (9_999, "9999-01-01T00:00:00"),
+            (10_000, "+010000-01-01T00:00:00"),
+            (-1, "-000001-01-01T00:00:00"),
+            (-10_000, "-010000-01-01T00:00:00"),
+        ] {
+            assert_eq!(first(year), text);
+        }
+        assert_eq!(since_1904(i64::MAX).iso(), "+292277026530-12-04T15:30:07");
+        assert_eq!(since_1904(i64::MIN).iso(), "-292277022723-01-25T08:29:52");
+        assert_eq!(since_1904(-1).iso(), "1903-12-31T23:59:59");
     }
 
     /// The farthest counts, worked out beside it by whole rounds of 400 years.

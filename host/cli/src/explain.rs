@@ -91,6 +91,7 @@ impl<'a> Section<'a> {
 
     pub fn json(&self) -> Json {
         let fields = self.fields.iter().map(|field| {
+            let time = field.time.iter().map(|time| ("time", Json::text(time)));
             Json::object([
                 ("start", Json::size(field.bytes.start)),
                 ("length", Json::size(field.bytes.len())),
@@ -98,6 +99,7 @@ impl<'a> Section<'a> {
                 ("sort", Json::text(field.sort.word())),
                 ("text", Json::text(&field.text)),
             ])
+            .with(time)
         });
         Json::object([("title", Json::text(self.title))]).with([
             ("answer", self.answer_json()),
@@ -118,6 +120,7 @@ fn data_fields(types: &Descriptor, data: &[u8], answer: Answer, all: bool) -> Ve
                 depth: more.path.len() + 1,
                 sort: Sort::More,
                 text: format!(".. {} more elements", more.count),
+                time: None,
             }),
         }
     }
@@ -137,6 +140,7 @@ fn data_fields(types: &Descriptor, data: &[u8], answer: Answer, all: bool) -> Ve
             depth: 0,
             sort: Sort::Rest,
             text: text.into(),
+            time: None,
         });
     }
     fields
@@ -157,6 +161,7 @@ fn fault_field(
         depth: path.len(),
         sort: Sort::Fault,
         text: format!("{}: refused, {facts}", label(types, *row, path)),
+        time: None,
     }
 }
 
@@ -175,18 +180,20 @@ fn part_fields(types: &Descriptor, data: &[u8], part: &Part, all: bool, fields: 
     let start = part.bytes.start;
     let bytes = &data[part.bytes.clone()];
     let label = label(types, part.row, &part.path);
-    let says = match types.rows[part.row].code {
-        0x30 => string(start, bytes, &label, all),
-        0x40 => sizes(start, &part.sizes, &label),
-        0x50 => vec![(start..start, Sort::Heading, label)],
-        0x54 => {
-            // Where it is not whole, its integers say what there is of it.
-            let text = match moment::of(types.own(part.row), bytes) {
-                Some(stamp) => format!("{label} = {}", moment::text(stamp)),
-                None => label,
-            };
+    let code = types.rows[part.row].code;
+    // Where it is not whole, its integers say what there is of it.
+    let stamp = match code {
+        0x54 => moment::of(types.own(part.row), bytes),
+        _ => None,
+    };
+    let says = match (code, stamp) {
+        (0x30, _) => string(start, bytes, &label, all),
+        (0x40, _) => sizes(start, &part.sizes, &label),
+        (0x54, Some(stamp)) => {
+            let text = format!("{label} = {}", moment::text(stamp));
             vec![(start..start, Sort::Heading, text)]
         }
+        (0x50 | 0x54, _) => vec![(start..start, Sort::Heading, label)],
         _ => {
             let number = content::number(types, part.row, bytes);
             let text = format!("{label} = {number}");
@@ -198,6 +205,7 @@ fn part_fields(types: &Descriptor, data: &[u8], part: &Part, all: bool, fields: 
         depth: part.path.len(),
         sort,
         text,
+        time: stamp.map(moment::iso),
     }));
 }
 

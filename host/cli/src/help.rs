@@ -28,9 +28,10 @@ Options stand anywhere behind the command's name or before it:
   --             what follows is no option
 
 A file holds the bytes as they came or, where its name ends in .hex, hexadecimal
-text with spaces and # comments; - is standard input. The exit status is 0 where
-the bytes are accepted (or equal), 1 where they are refused, 2 for a wrong use
-or trouble with a file, and 3 where two descriptors differ.
+text with spaces and # comments; - is standard input. That a file was written is
+said on standard error. The exit status is 0 where the bytes are accepted (or
+equal), 1 where they are refused, 2 for a wrong use, trouble with a file or an
+answer that can't be written, and 3 where two descriptors differ.
 ";
 
 const BOOKS: &str = "A blank book is one file for the records of a run. Each is kept as its
@@ -137,8 +138,8 @@ The path stands first: the steps that value and view take. The first elements of
 an array are listed, or every one with --all. A time stamp is a date and a time in
 universal time, by the Gregorian calendar in every year (year 0 comes before year
 1) and with 86,400 seconds in every day; its fraction has all its digits, up to 64.
-A Boolean is true for any byte but 00; here and in explain, a byte that is neither
-00 nor 01 is shown beside it.
+In JSON it is a time by ISO 8601. A Boolean is true for any byte but 00; here and in
+explain, a byte that is neither 00 nor 01 is shown beside it.
 ",
     ),
     (
@@ -226,7 +227,9 @@ DESCRIPTOR is a cluster with one unsigned 32-bit member named \"blank\", DATA a 
 under it. What is said, the identifier and the entry, is on the disk by then. The
 file is replaced as a whole or not at all: a refusal, a full disk or a kill leaves
 the old book. It is locked meanwhile, so that of several adds at once none is lost:
-the later ones wait.
+the later ones wait. Permissions, access control list and extended attributes are
+kept. A book with several names (hard links) is not changed, since that would part
+them.
 ",
     ),
     (

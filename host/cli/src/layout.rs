@@ -62,6 +62,8 @@ pub struct Field {
     pub depth: usize,
     pub sort: Sort,
     pub text: String,
+    /// What a time stamp says, for scripts.
+    pub time: Option<String>,
 }
 
 pub struct Layout {
@@ -348,6 +350,7 @@ impl Reading<'_> {
             depth: self.path.len(),
             sort,
             text,
+            time: None,
         });
         self.at = end;
     }

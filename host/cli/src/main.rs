@@ -1,7 +1,8 @@
 //! The command `kerbcanopy`. The library judges the bytes; this owns files,
 //! messages and the exit status: 0 accepted or equal, 1 refused, 2 a wrong use or
 //! trouble with a file, 3 for two descriptors that differ. Standard output has
-//! only what was asked for; each status but 0 has one line on standard error.
+//! only what was asked for; each status but 0 has one line on standard error, where
+//! a note stands, too, that a file was written.
 #![forbid(unsafe_code)]
 
 mod arguments;
@@ -20,6 +21,7 @@ mod help;
 mod hexadecimal;
 mod input;
 mod json;
+mod keep;
 mod layout;
 mod moment;
 mod outcome;
@@ -27,6 +29,7 @@ mod output;
 mod path;
 mod refusal;
 mod replace;
+mod stream;
 mod tokens;
 mod value;
 mod words;

@@ -29,10 +29,16 @@ pub fn text(stamp: Stamp) -> String {
     format!("{time}{} UTC", digits(stamp.fraction))
 }
 
+/// The same for scripts, by ISO 8601.
+pub fn iso(stamp: Stamp) -> String {
+    let time = date::since_1904(stamp.seconds).iso();
+    format!("{time}{}Z", digits(stamp.fraction))
+}
+
 /// The fields of a stamp for scripts.
 pub fn json(stamp: Stamp) -> [(&'static str, Json); 4] {
     let [seconds, fraction, bits] = numbers(stamp.seconds, stamp.fraction);
-    [("time", Json::text(text(stamp))), seconds, fraction, bits]
+    [("time", Json::text(iso(stamp))), seconds, fraction, bits]
 }
 
 /// The fields of a difference for scripts.
@@ -158,6 +164,16 @@ mod tests {
         assert_eq!(
             text(stamp(i64::MAX, 1 << 62)),
             "292277026530-12-04 15:30:07.25 UTC"
+        );
+    }
+
+    #[test]
+    fn stamps_are_times_by_the_standard() {
+        assert_eq!(iso(stamp(0, 0)), "1904-01-01T00:00:00Z");
+        assert_eq!(iso(stamp(-1, 1 << 63)), "1903-12-31T23:59:59.5Z");
+        assert_eq!(
+            iso(stamp(i64::MAX, 1 << 62)),
+            "+292277026530-12-04T15:30:07.25Z"
         );
     }
 

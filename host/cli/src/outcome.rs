@@ -3,6 +3,8 @@
 use std::io::{self, ErrorKind, Write};
 use std::process::ExitCode;
 
+use system::streams;
+
 use crate::json::Json;
 
 /// The exit status.
@@ -19,33 +21,35 @@ pub struct Outcome {
     pub status: Status,
     /// For standard output.
     pub answer: Vec<u8>,
+    /// A line for standard error about a file that was written; else empty.
+    pub note: String,
     /// The line for standard error; empty where the status is 0.
     pub complaint: String,
+    /// What is done, whatever becomes of the answer; else empty.
+    pub done: &'static str,
 }
 
 impl Outcome {
-    pub fn accepted(answer: impl Into<Vec<u8>>) -> Outcome {
+    fn new(status: Status, answer: impl Into<Vec<u8>>, complaint: String) -> Outcome {
         Outcome {
-            status: Status::Accepted,
+            status,
             answer: answer.into(),
-            complaint: String::new(),
+            note: String::new(),
+            complaint,
+            done: "",
         }
+    }
+
+    pub fn accepted(answer: impl Into<Vec<u8>>) -> Outcome {
+        Outcome::new(Status::Accepted, answer, String::new())
     }
 
     pub fn refused(answer: impl Into<Vec<u8>>, complaint: String) -> Outcome {
-        Outcome {
-            status: Status::Refused,
-            answer: answer.into(),
-            complaint,
-        }
+        Outcome::new(Status::Refused, answer, complaint)
     }
 
     pub fn different(answer: impl Into<Vec<u8>>, complaint: String) -> Outcome {
-        Outcome {
-            status: Status::Different,
-            answer: answer.into(),
-            complaint,
-        }
+        Outcome::new(Status::Different, answer, complaint)
     }
 
     /// A wrong use, or trouble with a file.
@@ -54,11 +58,7 @@ impl Outcome {
             true => Json::object([("trouble", Json::text(trouble))]).line(),
             false => String::new(),
         };
-        Outcome {
-            status: Status::Trouble,
-            answer: answer.into(),
-            complaint: trouble.into(),
-        }
+        Outcome::new(Status::Trouble, answer, trouble.into())
     }
 
     /// Writes to both streams. A reader that has gone changes nothing; an answer
@@ -67,18 +67,28 @@ impl Outcome {
         let (status, complaint) = match write_all(&self.answer) {
             Ok(()) => (self.status, self.complaint),
             Err(error) if error.kind() == ErrorKind::BrokenPipe => (self.status, self.complaint),
-            Err(error) => (Status::Trouble, format!("standard output: {error}")),
+            Err(error) => {
+                let done = match self.done {
+                    "" => String::new(),
+                    done => format!("; {done}"),
+                };
+                (Status::Trouble, format!("standard output: {error}{done}"))
+            }
         };
-        if !complaint.is_empty() {
-            // There is nobody left to tell where this can't be written either.
-            let _ = io::stderr().write_all(format!("kerbcanopy: {complaint}\n").as_bytes());
-        }
+        let lines = [self.note, complaint].into_iter();
+        let lines = lines.filter(|line| !line.is_empty());
+        let lines: String = lines.map(|line| format!("kerbcanopy: {line}\n")).collect();
+        // There is nobody left to tell where this can't be written either.
+        let _ = io::stderr().write_all(lines.as_bytes());
         ExitCode::from(status as u8)
     }
 }
 
+/// Writes the answer, if there is one, to the file behind standard output: Rust's own
+/// way there would not say that it can't be written to.
 fn write_all(answer: &[u8]) -> io::Result<()> {
-    let mut out = io::stdout().lock();
-    out.write_all(answer)?;
-    out.flush()
+    match answer {
+        [] => Ok(()),
+        _ => streams::output()?.write_all(answer),
+    }
 }

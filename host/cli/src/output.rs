@@ -1,9 +1,11 @@
 //! Bytes that a command gives: as text, raw, or in a file.
 
 use std::ffi::OsStr;
+use std::io::Write;
 use std::path::Path;
 
 use kerbcanopy::Answer;
+use system::streams;
 
 use crate::arguments::Options;
 use crate::hexadecimal;
@@ -12,6 +14,7 @@ use crate::json::Json;
 use crate::outcome::Outcome;
 use crate::refusal;
 use crate::replace;
+use crate::stream::{self, Stream};
 use crate::words::{counted, shown};
 
 /// Hands over what was written. Without `-o` it is text on standard output, with
@@ -23,24 +26,42 @@ pub fn hand_over(answer: Answer, bytes: &[u8], options: &Options) -> Result<Outc
             false => hexadecimal::text(bytes),
         }));
     };
-    if out == "-" {
+    if stream::named(out) == Some(Stream::Output) {
         return Ok(Outcome::accepted(bytes));
     }
     match is_text(out) {
         true => save(out, hexadecimal::text(bytes).as_bytes())?,
         false => save(out, bytes)?,
     }
-    Ok(Outcome::accepted(match options.json {
-        true => written(answer, bytes)
-            .with([("out", Json::text(shown(out)))])
-            .line(),
-        false => format!("{}: {} written\n", shown(out), counted(bytes.len(), "byte")),
-    }))
+    Ok(match options.json {
+        true => {
+            let out = [("out", Json::text(shown(out)))];
+            Outcome::accepted(written(answer, bytes).with(out).line())
+        }
+        false => Outcome {
+            note: note(out, &format!("{} written", counted(bytes.len(), "byte"))),
+            ..Outcome::accepted("")
+        },
+    })
 }
 
-/// Replaces the file, or says what the trouble is.
+/// The note that a file was written. There is none where that is standard error, which
+/// the note would go to as well.
+pub fn note(out: &OsStr, what: &str) -> String {
+    match stream::named(out) {
+        Some(_) => String::new(),
+        None => format!("{}: {what}", shown(out)),
+    }
+}
+
+/// Replaces the file, or says what the trouble is. A stream is written to as it is.
 pub fn save(out: &OsStr, bytes: &[u8]) -> Result<(), String> {
-    replace::write(Path::new(out), bytes).map_err(|error| format!("{}: {error}", shown(out)))
+    let saved = match stream::named(out) {
+        Some(Stream::Output) => streams::output().and_then(|mut file| file.write_all(bytes)),
+        Some(Stream::Error) => streams::error().and_then(|mut file| file.write_all(bytes)),
+        None => replace::write(Path::new(out), bytes),
+    };
+    saved.map_err(|error| format!("{}: {error}", shown(out)))
 }
 
 fn written(answer: Answer, bytes: &[u8]) -> Json {

@@ -1,10 +1,20 @@
 //! A file replaced as a whole: the bytes go to a new file beside it, which takes
 //! its name once they are on the disk. Until then the old file is as it was.
 
+use std::ffi::OsStr;
 use std::fs::{self, File, OpenOptions};
 use std::io::{self, Write};
+use std::os::unix::fs::OpenOptionsExt;
 use std::path::{Path, PathBuf};
 use std::process;
+
+use crate::keep;
+
+/// What a new file may be that replaces none, before the user's own mask.
+pub const OPEN: u32 = 0o666;
+/// What the name of a new file starts and ends with until it has its own.
+const BEGINNING: &str = ".kerbcanopy-";
+const ENDING: &str = ".new";
 
 /// Writes the bytes to the file. What is no file, a device or a pipe, has nothing
 /// to be replaced and is written to as it is.
@@ -15,10 +25,10 @@ pub fn write(target: &Path, bytes: &[u8]) -> io::Result<()> {
             let mut file = OpenOptions::new().write(true).open(&target)?;
             file.write_all(bytes)
         }
-        Ok(old) => {
+        Ok(_) => {
             // A file that may not be written to is not to be replaced either.
-            OpenOptions::new().write(true).open(&target)?;
-            replace(&target, Some(old), bytes)
+            let old = OpenOptions::new().write(true).open(&target)?;
+            replace(&target, Some(&old), bytes)
         }
         Err(_) => replace(&target, None, bytes),
     }
@@ -41,12 +51,9 @@ fn behind_links(target: &Path) -> io::Result<PathBuf> {
     }
 }
 
-fn replace(target: &Path, old: Option<fs::Metadata>, bytes: &[u8]) -> io::Result<()> {
-    let (path, file) = beside(target)?;
-    let written = match old {
-        Some(old) => file.set_permissions(old.permissions()),
-        None => Ok(()),
-    };
+fn replace(target: &Path, old: Option<&File>, bytes: &[u8]) -> io::Result<()> {
+    let (path, file) = beside(target, old.map_or(OPEN, |_| keep::CLOSED))?;
+    let written = old.map_or(Ok(()), |old| keep::take_over(&file, old));
     let written = written.and_then(|()| fill(file, bytes));
     let written = written.and_then(|()| fs::rename(&path, target));
     if written.is_err() {
@@ -68,12 +75,12 @@ pub fn fill(mut file: File, bytes: &[u8]) -> io::Result<()> {
 }
 
 /// A new file in the target's folder that nobody else has.
-pub fn beside(target: &Path) -> io::Result<(PathBuf, File)> {
+pub fn beside(target: &Path, mode: u32) -> io::Result<(PathBuf, File)> {
     for number in 0.. {
         // Short, whatever the target's own name is.
-        let new = format!(".kerbcanopy-{}-{number}.new", process::id());
+        let new = format!("{BEGINNING}{}-{number}{ENDING}", process::id());
         let path = folder_of(target).join(new);
-        match OpenOptions::new().write(true).create_new(true).open(&path) {
+        match make(&path, mode) {
             Err(error) if error.kind() == io::ErrorKind::AlreadyExists => {}
             opened => return opened.map(|file| (path, file)),
         }
@@ -81,9 +88,57 @@ pub fn beside(target: &Path) -> io::Result<(PathBuf, File)> {
     Err(io::ErrorKind::AlreadyExists.into())
 }
 
+/// Whether a file of this name was made by `beside`.
+pub fn is_beside(name: &OsStr) -> bool {
+    let numbers = name
+        .to_str()
+        .and_then(|name| name.strip_prefix(BEGINNING)?.strip_suffix(ENDING));
+    let (process, number) = numbers
+        .and_then(|numbers| numbers.split_once('-'))
+        .unwrap_or_default();
+    let is_number =
+        |text: &str| !text.is_empty() && text.bytes().all(|digit| digit.is_ascii_digit());
+    is_number(process) && is_number(number)
+}
+
+/// Makes a file, with these permissions at most.
+pub fn make(path: &Path, mode: u32) -> io::Result<File> {
+    OpenOptions::new()
+        .write(true)
+        .create_new(true)
+        .mode(mode)
+        .open(path)
+}
+
 pub fn folder_of(target: &Path) -> &Path {
     match target.parent() {
         Some(folder) if !folder.as_os_str().is_empty() => folder,
         _ => Path::new("."),
+    }
+}
+
+#[cfg(test)]
+mod tests {
+    use super::*;
+
+    #[test]
+    fn the_names_of_new_files() {
+        for name in [".kerbcanopy-1-0.new", ".kerbcanopy-4194304-17.new"] {
+            assert!(is_beside(OsStr::new(name)), "{name}");
+        }
+        for name in [
+            ".kerbcanopy-book-7.new",
+            ".kerbcanopy-1.new",
+            ".kerbcanopy-1-.new",
+            ".kerbcanopy--1.new",
+            ".kerbcanopy-1-2-3.new",
+            ".kerbcanopy-1-+2.new",
+            ".kerbcanopy-1-2",
+            "kerbcanopy-1-2.new",
+            ".kerbcanopy-.new",
+            "",
+        ] {
+            assert!(!is_beside(OsStr::new(name)), "{name}");
+        }
     }
 }

@@ -1,12 +1,15 @@
 #!/usr/bin/env python3
-"""The page of `kerbcanopy explain --html` in a real browser, at a narrow and a wide width.
+"""The page of `kerbcanopy explain --html` in a real browser, at a narrow and a wide width, and on paper.
 
 Run from the repository's root, with the command built; needs Debian's chromium. Prints a line for each thing seen and ends with
 'N passed, M failed'.
 """
 
+import base64
 import json
+import math
 import os
+import re
 import shutil
 import subprocess
 import sys
@@ -15,6 +18,9 @@ import tempfile
 COMMAND = os.path.join("host", "target", "release", "kerbcanopy")
 WIDTHS = (360, 1280)
 HEIGHT = 900
+# A sheet without its margins, in inches as the browser takes them, and how many pixels an inch has.
+PAPER = (7.5, 10)
+INCH = 96
 
 # Descriptors and data in hexadecimal; the page must mark the place that the command's own answer has.
 RIG = "0014 0050 0002 0006 0002 0174 0008 0007 0269 6400"
@@ -61,6 +67,21 @@ LOOK = """(() => {
     overflow: document.documentElement.scrollWidth - innerWidth,
     outside: performance.getEntriesByType("resource").length,
     title: document.title,
+  };
+})()"""
+
+# What is on paper, asked of the same layout: what a pane doesn't show of what is in it, what sticks out of it, and the marks.
+PRINTED = """(() => {
+  const panes = [...document.querySelectorAll(".bytes, .fields")];
+  const ends = (pane) => { const last = pane.lastElementChild; return last ? last.getBoundingClientRect().bottom : 0; };
+  const style = (e) => { const s = getComputedStyle(e); return [s.color, s.backgroundColor, s.outlineStyle]; };
+  return {
+    hidden: panes.map((e) => [e.scrollHeight - e.clientHeight, e.scrollWidth - e.clientWidth]),
+    below: panes.map((e) => ends(e) - e.getBoundingClientRect().bottom),
+    rows: document.querySelectorAll(".bytes div").length,
+    height: document.documentElement.scrollHeight,
+    overflow: document.documentElement.scrollWidth - innerWidth,
+    marks: [...document.querySelectorAll(".place")].map(style),
   };
 })()"""
 
@@ -121,6 +142,15 @@ class Browser:
         self.call("Page.navigate", url="file://" + path)
         while self.message().get("method") != "Page.loadEventFired":
             pass
+
+    def media(self, name):
+        self.call("Emulation.setEmulatedMedia", media=name)
+
+    def sheets(self):
+        """Prints, and gives the number of sheets."""
+        width, height = PAPER
+        printed = self.call("Page.printToPDF", paperWidth=width, paperHeight=height, marginTop=0, marginBottom=0, marginLeft=0, marginRight=0)
+        return len(re.findall(rb"/Type\s*/Page\b", base64.b64decode(printed["data"])))
 
     def ask(self, script):
         result = self.call("Runtime.evaluate", expression=script, returnByValue=True)
@@ -214,8 +244,29 @@ def point(count, browser, name, sections, width):
             count.see(f"{here}: so that it can be seen", len(set(seen["ground"])) == 1 and seen["ground"][0] != "rgba(0, 0, 0, 0)", seen["ground"][:2])
 
 
+def on_paper(count, browser, name, page):
+    """Lays the page out for paper: everything is there, and the marks can be seen without a ground."""
+    width, height = (INCH * inches for inches in PAPER)
+    browser.open(page, round(width))
+    shown = browser.ask(PRINTED)
+    browser.media("print")
+    seen = browser.ask(PRINTED)
+    browser.media("")
+    here = f"{name}, on paper"
+    count.see(f"{here}: no pane hides anything", all(hidden <= 0 for pane in seen["hidden"] for hidden in pane), seen["hidden"])
+    count.see(f"{here}: every pane goes on to its last line", all(below <= 0 for below in seen["below"]), seen["below"])
+    count.see(f"{here}: nothing sticks out", seen["overflow"] <= 0, seen["overflow"])
+    marks = [color != "rgb(255, 255, 255)" and ground == "rgba(0, 0, 0, 0)" and outline == "solid" for color, ground, outline in seen["marks"]]
+    count.see(f"{here}: marks are drawn, not filled", all(marks), seen["marks"])
+    # A line more or less stands on the sheet after where it would be cut.
+    sheets = browser.sheets()
+    count.see(f"{here}: as many sheets as it is long", math.floor(0.9 * seen["height"] / height) <= sheets, (sheets, seen["height"]))
+    return seen["height"] - shown["height"], sheets
+
+
 def main():
     count = Count()
+    longest = (0, 0)
     with tempfile.TemporaryDirectory() as folder:
         browser = Browser(os.path.join(folder, "profile"))
         for name, descriptor, data in CASES:
@@ -224,7 +275,9 @@ def main():
                 browser.open(page, width)
                 look(count, browser, name, sections, width)
                 point(count, browser, name, sections, width)
+            longest = max(longest, on_paper(count, browser, name, page))
         browser.close()
+    count.see("what scrolls on a screen takes sheets of its own", longest[0] > HEIGHT and longest[1] > 2, longest)
     print(f"{count.passed} passed, {count.failed} failed")
     return count.failed != 0
 

@@ -33,7 +33,7 @@ pub fn new(request: &Request) -> Result<Outcome, String> {
     let bytes = book::blank(capacity, length).map_err(about)?;
     file::create(Path::new(name), &bytes).map_err(about)?;
     let book = headed(&bytes);
-    Ok(Outcome::accepted(match request.options.json {
+    let answer = match request.options.json {
         true => figures(kerbcanopy::store_check(&bytes), &book).line(),
         false => format!(
             "{}: {} written, {}, {} free\n",
@@ -42,7 +42,11 @@ pub fn new(request: &Request) -> Result<Outcome, String> {
             counted(capacity, "entry"),
             counted(book.free(), "byte"),
         ),
-    }))
+    };
+    Ok(Outcome {
+        done: "the book is made",
+        ..Outcome::accepted(answer)
+    })
 }
 
 /// Whether it is a book, and what is used and free in it.
@@ -96,7 +100,7 @@ pub fn add(request: &Request) -> Result<Outcome, String> {
         unreachable!("an entry was added")
     };
     let body = entry.start..entry.end();
-    Ok(Outcome::accepted(match request.options.json {
+    let answer = match request.options.json {
         true => placed(answer, number, &entry, &body).line(),
         false => format!(
             "{}: identifier {} added as entry {number}, {} at {}\n",
@@ -105,7 +109,11 @@ pub fn add(request: &Request) -> Result<Outcome, String> {
             counted(body.len(), "byte"),
             body.start,
         ),
-    }))
+    };
+    Ok(Outcome {
+        done: "the record is in the book",
+        ..Outcome::accepted(answer)
+    })
 }
 
 /// The body of a record, or one of its two parts.

@@ -7,6 +7,7 @@ use crate::explain::{Section, page, text};
 use crate::json::Json;
 use crate::outcome::Outcome;
 use crate::output;
+use crate::stream::{self, Stream};
 use crate::words::shown;
 
 /// Explains the descriptor and, where it is accepted, the data.
@@ -19,22 +20,22 @@ pub fn explain(request: &Request) -> Result<Outcome, String> {
     }
     let answer = shape(request, &sections);
     let refusal = sections.iter().find_map(|section| section.refusal.as_ref());
-    let answer = match request.options.out.as_deref() {
-        Some(out) if out != "-" => {
+    let (answer, note) = match request.options.out.as_deref() {
+        Some(out) if stream::named(out) != Some(Stream::Output) => {
             output::save(out, answer.as_bytes())?;
+            let out_json = [("out", Json::text(shown(out)))];
             match request.options.json {
-                true => verdict(&sections)
-                    .with([("out", Json::text(shown(out)))])
-                    .line(),
-                false => format!("{}: written\n", shown(out)),
+                true => (verdict(&sections).with(out_json).line(), String::new()),
+                false => (String::new(), output::note(out, "written")),
             }
         }
-        _ => answer,
+        _ => (answer, String::new()),
     };
-    Ok(match refusal {
+    let outcome = match refusal {
         None => Outcome::accepted(answer),
         Some(refusal) => Outcome::refused(answer, refusal.line()),
-    })
+    };
+    Ok(Outcome { note, ..outcome })
 }
 
 /// The explanation in the form that is asked for.

@@ -2,14 +2,16 @@
 //! time. The new bytes go to a file beside it, which takes its name once they are on the
 //! disk, so that readers need no lock: they have the old book or the new one.
 
+use std::ffi::OsStr;
 use std::fs::{self, File, Metadata, OpenOptions};
 use std::io::{self, ErrorKind, Read};
-use std::os::unix::fs::{MetadataExt, fchown};
+use std::os::unix::fs::MetadataExt;
 use std::path::{Path, PathBuf};
 
 use kerbcanopy::BOOK_LIMIT;
 
-use crate::replace::{beside, fill, folder_of};
+use crate::keep;
+use crate::replace::{OPEN, beside, fill, folder_of, is_beside, make};
 
 /// Why a file is not made.
 const THERE: &str = "it is there already, and not replaced";
@@ -24,7 +26,7 @@ pub fn create(path: &Path, bytes: &[u8]) -> Result<(), String> {
     if fs::symlink_metadata(path).is_ok() {
         return Err(THERE.into());
     }
-    let (new, file) = beside(path).map_err(told)?;
+    let (new, file) = beside(path, OPEN).map_err(told)?;
     let made = fill(file, bytes).and_then(|()| fs::hard_link(&new, path));
     // Whether or not it has the other name as well.
     let _ = fs::remove_file(&new);
@@ -64,14 +66,53 @@ impl Locked {
             // Whoever had the lock before may have put another file in its place.
             let metadata = fs::metadata(name).map_err(told)?;
             if (metadata.dev(), metadata.ino()) == (opened.dev(), opened.ino()) {
-                return Ok(Locked {
+                let locked = Locked {
                     path,
                     file,
                     metadata,
-                });
+                };
+                locked.drop_leftover();
+                locked.has_one_name()?;
+                return Ok(locked);
             }
         }
         Err("it is replaced by others over and over, so it is not changed".into())
+    }
+
+    /// Says what the trouble is where the file has another name, which would keep the old
+    /// book and take an identifier once more.
+    fn has_one_name(&self) -> Result<(), String> {
+        let names = self.file.metadata().map_err(told)?.nlink();
+        match names > 1 {
+            true => Err(format!(
+                "it has {names} names (hard links), and a change would part them, so it is not changed; \
+                 take the others away, or make them symbolic links"
+            )),
+            false => Ok(()),
+        }
+    }
+
+    /// Takes away the hidden name that the book has beside its own where `book new` was
+    /// killed in between, or has not come to it yet: it takes that away itself, or finds
+    /// it gone. What can't be taken away stays another name.
+    fn drop_leftover(&self) {
+        if self.metadata.nlink() < 2 {
+            return;
+        }
+        let entries = fs::read_dir(folder_of(&self.path));
+        for entry in entries.into_iter().flatten().flatten() {
+            let name = entry.file_name();
+            if is_beside(&name) && self.is_another_name(&name) {
+                let _ = fs::remove_file(entry.path());
+            }
+        }
+    }
+
+    /// Whether what has this name in the book's folder is the book, under another name.
+    fn is_another_name(&self, name: &OsStr) -> bool {
+        let of = fs::symlink_metadata(folder_of(&self.path).join(name));
+        let book = (self.metadata.dev(), self.metadata.ino());
+        self.path.file_name() != Some(name) && of.is_ok_and(|of| (of.dev(), of.ino()) == book)
     }
 
     /// The bytes, up to one over the limit.
@@ -85,11 +126,13 @@ impl Locked {
     /// Puts these bytes in its place, on the disk, or says what the trouble is.
     pub fn replace(self, bytes: &[u8]) -> Result<(), String> {
         let new = self.new_path();
-        let replaced = self.write_new(&new, bytes);
-        let replaced = replaced.and_then(|()| fs::rename(&new, &self.path));
-        if let Err(error) = replaced {
+        let replaced = self.write_new(&new, bytes).map_err(told);
+        // As late as can be: a name that it is given from here on is not seen.
+        let replaced = replaced.and_then(|()| self.has_one_name());
+        let replaced = replaced.and_then(|()| fs::rename(&new, &self.path).map_err(told));
+        if let Err(trouble) = replaced {
             let _ = fs::remove_file(&new);
-            return Err(told(error));
+            return Err(trouble);
         }
         settle(&self.path).map_err(|error| unsettled("the book is changed", &error))
     }
@@ -106,20 +149,9 @@ impl Locked {
             Err(error) if error.kind() != ErrorKind::NotFound => return Err(error),
             _ => {}
         }
-        let file = OpenOptions::new().write(true).create_new(true).open(new)?;
-        self.hand_on(&file)?;
+        let file = make(new, keep::CLOSED)?;
+        keep::take_over(&file, &self.file)?;
         fill(file, bytes)
-    }
-
-    /// Gives a new file the old one's permissions, and its owner and group as far as
-    /// this user may: who could change the book can do so again.
-    fn hand_on(&self, file: &File) -> io::Result<()> {
-        let (old, new) = (&self.metadata, file.metadata()?);
-        if (old.uid(), old.gid()) != (new.uid(), new.gid()) {
-            let _ = fchown(file, Some(old.uid()), Some(old.gid()))
-                .or_else(|_| fchown(file, None, Some(old.gid())));
-        }
-        file.set_permissions(old.permissions())
     }
 }
 

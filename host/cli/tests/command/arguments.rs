@@ -60,7 +60,7 @@ fn options_stand_before_among_and_behind_the_operands() {
         &["little", "--output=out", "rig.hex", "data-rig.hex"],
         &["little", "-o", "out", "--", "rig.hex", "data-rig.hex"],
     ] {
-        folder.run(words).gives("out: 6 bytes written\n");
+        folder.run(words).writes("out: 6 bytes written");
         assert_eq!(folder.read("out"), [0x19, 0, 9, 0, 0, 0]);
         std::fs::remove_file(folder.path.join("out")).expect("it is there");
     }
@@ -82,7 +82,7 @@ fn words_need_not_be_utf_8() {
     for option in [&[of(b"--output=\xFF=a")][..], &[of(b"-o"), of(b"\xFF=a")]] {
         folder
             .run(&[&words[..], option].concat())
-            .gives("\\xFF=a: 20 bytes written\n");
+            .writes("\\xFF=a: 20 bytes written");
         std::fs::remove_file(folder.path.join(of(b"\xFF=a"))).expect("it is there");
     }
     let wrong = folder.run(&[&words[..], &[of(b"--\xFF=1")]].concat());

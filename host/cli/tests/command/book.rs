@@ -1,9 +1,10 @@
 //! `book`: one file for a run of records.
 
-mod calls;
+pub mod calls;
 mod file;
-mod killed;
+pub mod killed;
 mod moments;
+mod names;
 mod questions;
 mod together;
 
@@ -12,7 +13,7 @@ use crate::common::{Folder, Ran};
 
 /// A folder with a book of four entries that has records 9 and 14, and a record's
 /// descriptor.
-fn shelf(test: &str) -> Folder {
+pub fn shelf(test: &str) -> Folder {
     let folder = Folder::new(test);
     folder.put("book", &plain(4, 200, &[9, 14]));
     folder.put("types", &blank());
@@ -26,7 +27,7 @@ fn add(folder: &Folder, identifier: u32) -> Ran {
 }
 
 /// A file with a record's data, by its name.
-fn data(folder: &Folder, identifier: u32) -> String {
+pub fn data(folder: &Folder, identifier: u32) -> String {
     let name = format!("data-{identifier}");
     folder.put(&name, &identifier.to_be_bytes());
     name

@@ -57,7 +57,7 @@ fn colours_are_left_out_where_they_are_not_wanted() {
         );
     }
     let written = on_a_terminal(&folder, "-u NO_COLOR TERM=xterm", "explain rig.hex -o out");
-    assert_eq!(written, "out: written\n");
+    assert_eq!(written, "kerbcanopy: out: written\n");
     assert_eq!(folder.read("out"), text.out);
     let piped = on_a_terminal(&folder, "-u NO_COLOR TERM=xterm", "explain rig.hex -o -");
     assert_eq!(piped, text.text());

@@ -306,12 +306,13 @@ fn the_text_goes_to_a_file_too() {
     let text = folder.run(&["explain", "rig.hex"]).out;
     folder
         .run(&["explain", "rig.hex", "-o", "out.txt"])
-        .gives("out.txt: written\n");
+        .writes("out.txt: written");
     assert_eq!(folder.read("out.txt"), text);
     let shown = folder.run(&["explain", "rig.hex", "-o", "-"]);
     assert_eq!(shown.out, text);
     let refused = folder.run(&["explain", "rig-cut.hex"]).out;
     let ran = folder.run(&["explain", "rig-cut.hex", "-o", "out.txt"]);
-    assert_eq!((ran.status, ran.text()), (1, "out.txt: written\n"));
+    assert_eq!((ran.status, ran.text()), (1, ""));
+    assert_eq!(ran.note, "kerbcanopy: out.txt: written");
     assert_eq!(folder.read("out.txt"), refused);
 }

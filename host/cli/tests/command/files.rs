@@ -228,7 +228,7 @@ fn names_in_answers_steer_no_terminal() {
         assert!(ran.text().starts_with(&format!("{shown}: 4 bytes")));
         let words = ["normal", "good", "-o"].map(OsString::from);
         let ran = folder.run(&[&words[..], &[file]].concat());
-        ran.gives(&format!("{shown}: 4 bytes written\n"));
+        ran.writes(&format!("{shown}: 4 bytes written"));
     }
 }
 

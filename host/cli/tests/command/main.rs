@@ -5,6 +5,7 @@
 mod common;
 
 mod arguments;
+mod attributes;
 mod book;
 mod check;
 mod colour;

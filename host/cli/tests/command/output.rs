@@ -28,13 +28,13 @@ fn the_name_of_a_file_says_its_kind() {
     let bytes = hex(&NORMAL.replace('\n', " "));
     folder
         .run(&["normal", "rig-reserved.hex", "-o", "out.bin"])
-        .gives("out.bin: 20 bytes written\n");
+        .writes("out.bin: 20 bytes written");
     assert_eq!(folder.read("out.bin"), bytes);
     for name in ["out.hex", "out.HEX", "out.Hex", ".hex"] {
-        let written = format!("{name}: 20 bytes written\n");
+        let written = format!("{name}: 20 bytes written");
         folder
             .run(&["normal", "rig-reserved.hex", "-o", name])
-            .gives(&written);
+            .writes(&written);
         assert_eq!(folder.read(name), NORMAL.as_bytes());
         folder.run(&["compare", "rig.hex", name]).gives("equal\n");
     }
@@ -81,10 +81,10 @@ fn every_command_with_an_output_writes_a_file() {
         (&["view", "rig.hex", "data-rig.hex"], "0019 0000 0009"),
     ] {
         let length = hex(bytes).len();
-        let written = format!("out: {length} bytes written\n");
+        let written = format!("out: {length} bytes written");
         folder
             .run(&[words, &["-o", "out"]].concat())
-            .gives(&written);
+            .writes(&written);
         assert_eq!(folder.read("out"), hex(bytes));
     }
 }

@@ -27,7 +27,7 @@ fn the_page_is_written_whole_and_refers_to_nothing() {
     assert_eq!(shown.status, 0);
     let page = shown.text();
     let ran = folder.run(&[&words[..], &["-o", "page.html"]].concat());
-    ran.gives("page.html: written\n");
+    ran.writes("page.html: written");
     assert_eq!(folder.read("page.html"), page.as_bytes());
     assert!(page.starts_with("<!DOCTYPE html>\n<html lang=\"en\">\n"));
     assert!(page.ends_with("</body>\n</html>\n"));
@@ -130,7 +130,8 @@ fn a_refused_page_is_written_with_status_1() {
     folder.put("types", &descriptor(0x32, &[]));
     let shown = folder.run(&["explain", "types", "--html"]);
     let ran = folder.run(&["explain", "types", "--html", "-o", "page.html"]);
-    assert_eq!((ran.status, ran.text()), (1, "page.html: written\n"));
+    assert_eq!((ran.status, ran.text()), (1, ""));
+    assert_eq!(ran.note, "kerbcanopy: page.html: written");
     assert_eq!(folder.read("page.html"), shown.out);
 }
 
@@ -141,7 +142,7 @@ fn what_is_missing_at_the_end_is_marked() {
     let shown = folder.run(&["explain", "short.hex", "--html"]);
     let page = shown.text();
     assert!(page.contains("<b class=\"end place\" data-at=\"10\">end</b>"));
-    let marked = inside(&page, "<li class=\"fault place\"", "</li>");
+    let marked = inside(page, "<li class=\"fault place\"", "</li>");
     assert_eq!(marked.len(), 1);
     assert!(marked[0].contains("length: 4 bytes needed, 0 left"));
 }

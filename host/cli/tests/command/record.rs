@@ -56,7 +56,7 @@ fn what_is_given_is_data_for_the_reader() {
         "-o",
         "moved",
     ];
-    folder.run(&words).gives("moved: 6 bytes written\n");
+    folder.run(&words).writes("moved: 6 bytes written");
     assert_eq!(folder.read("moved"), hex("00000009 0019"));
     folder
         .run(&["data", "rig-before.hex", "moved"])
@@ -85,7 +85,7 @@ fn a_damaged_record_leaves_the_one_before() {
     let names = ["rig.hex", "reader.hex", "data/rig.hex", "data/rig-cut.hex"];
     let folder = Folder::with_samples("record-damaged", &names);
     let read = |data: &str| folder.run(&["read", "rig.hex", "reader.hex", data, "-o", "record"]);
-    read("data-rig.hex").gives("record: 4 bytes written\n");
+    read("data-rig.hex").writes("record: 4 bytes written");
     read("data-rig-cut.hex").refuses(
         "data-rig-cut.hex: refused with 21: the data ends inside this piece \
          (input 3, the data; place 2; in 1 \"id\"): 00 19 [00] 00 00; 4 bytes needed, 3 left",

@@ -26,7 +26,7 @@ fn onto_the_input_itself() {
     let folder = folder("replace-input");
     folder
         .run(&["normal", "types", "-o", "types"])
-        .gives("types: 4 bytes written\n");
+        .writes("types: 4 bytes written");
     assert_eq!(folder.read("types"), NORMAL);
     folder.put(
         "pair",
@@ -35,11 +35,11 @@ fn onto_the_input_itself() {
     folder.put("data", &hex("0019 00000009"));
     folder
         .run(&["little", "pair", "data", "-o", "data"])
-        .gives("data: 6 bytes written\n");
+        .writes("data: 6 bytes written");
     assert_eq!(folder.read("data"), hex("1900 09000000"));
     folder
         .run(&["big", "pair", "data", "-o", "./data"])
-        .gives("./data: 6 bytes written\n");
+        .writes("./data: 6 bytes written");
     assert_eq!(folder.read("data"), hex("0019 00000009"));
     assert_eq!(folder.names(), ["bad", "data", "pair", "types"]);
 }
@@ -77,7 +77,7 @@ fn a_link_stays_and_its_file_is_replaced() {
     symlink("sub/real", folder.path.join("link")).expect("it can be made");
     folder
         .run(&["normal", "types", "-o", "link"])
-        .gives("link: 4 bytes written\n");
+        .writes("link: 4 bytes written");
     let link = fs::read_link(folder.path.join("link")).expect("it is a link");
     assert_eq!(link.to_str(), Some("sub/real"));
     assert_eq!(folder.read("sub/real"), NORMAL);
@@ -95,7 +95,7 @@ fn a_link_to_nothing_yet_stays_too() {
     symlink("real", folder.path.join("sub/second")).expect("it can be made");
     folder
         .run(&["normal", "types", "-o", "first"])
-        .gives("first: 4 bytes written\n");
+        .writes("first: 4 bytes written");
     assert!(folder.path.join("first").is_symlink());
     assert!(folder.path.join("sub/second").is_symlink());
     assert_eq!(folder.read("sub/real"), NORMAL);
@@ -114,14 +114,14 @@ fn permissions_are_kept() {
             .expect("it is ours");
         folder
             .run(&["normal", "types", "-o", "out"])
-            .gives("out: 4 bytes written\n");
+            .writes("out: 4 bytes written");
         assert_eq!(folder.read("out"), NORMAL);
         assert_eq!(mode(&folder, "out"), kept);
     }
     // A new file has those of any other new file.
     folder
         .run(&["normal", "types", "-o", "new"])
-        .gives("new: 4 bytes written\n");
+        .writes("new: 4 bytes written");
     assert_eq!(mode(&folder, "new"), mode(&folder, "types"));
 }
 
@@ -131,7 +131,7 @@ fn a_name_as_long_as_one_can_be() {
     let name = "n".repeat(255);
     folder
         .run(&["normal", "types", "-o", &name])
-        .gives(&format!("{name}: 4 bytes written\n"));
+        .writes(&format!("{name}: 4 bytes written"));
     assert_eq!(folder.read(&name), NORMAL);
 }
 
@@ -162,12 +162,12 @@ fn a_file_that_may_not_be_written_to() {
     // Root writes to it all the same.
     let allowed = OpenOptions::new().write(true).open(&path).is_ok();
     for (words, written) in [
-        (["explain", "types", "-o", "out"], "out: written\n"),
-        (["normal", "types", "-o", "out"], "out: 4 bytes written\n"),
+        (["explain", "types", "-o", "out"], "out: written"),
+        (["normal", "types", "-o", "out"], "out: 4 bytes written"),
     ] {
         let ran = folder.run(&words);
         match allowed {
-            true => ran.gives(written),
+            true => ran.writes(written),
             false => ran.troubles("out: Permission denied (os error 13)"),
         }
     }
@@ -189,7 +189,7 @@ fn a_folder_that_can_t_be_written() {
     let ran = folder.run(&["normal", "types", "-o", "closed/out"]);
     fs::set_permissions(&closed, PermissionsExt::from_mode(0o755)).expect("it is ours");
     match allowed {
-        true => ran.gives("closed/out: 4 bytes written\n"),
+        true => ran.writes("closed/out: 4 bytes written"),
         false => {
             ran.troubles("closed/out: Permission denied (os error 13)");
             assert_eq!(folder.read("closed/out"), b"as it was");
@@ -236,7 +236,7 @@ fn a_kill_leaves_the_old_file() {
     // What was begun is in the way of nothing.
     folder
         .run(&["normal", "types", "-o", "out"])
-        .gives("out: 4 bytes written\n");
+        .writes("out: 4 bytes written");
     assert_eq!(folder.read("out"), NORMAL);
 }
 
@@ -245,7 +245,7 @@ fn a_device_is_written_as_it_is() {
     let folder = folder("replace-device");
     folder
         .run(&["normal", "types", "-o", "/dev/null"])
-        .gives("/dev/null: 4 bytes written\n");
+        .writes("/dev/null: 4 bytes written");
     let ran = folder.shell("mkfifo pipe && { cat pipe & } && \"$K\" normal types -o pipe && wait");
     assert!(
         ran.stdout.windows(4).any(|bytes| bytes == NORMAL),

@@ -111,6 +111,19 @@ const DATES: [(&str, &str); 13] = [
     ),
 ];
 
+/// The same date for scripts: a year of four digits as it is, any other with its sign
+/// and six digits at least.
+fn iso(date: &str) -> String {
+    let (day, time) = date.split_once(' ').expect("there is a time of day");
+    let (year, day) = day.split_at(day.len() - "-01-01".len());
+    let year = match (year.len(), year.strip_prefix('-')) {
+        (4, None) => year.to_string(),
+        (_, None) => format!("+{year:0>6}"),
+        (_, Some(year)) => format!("-{year:0>6}"),
+    };
+    format!("{year}{day}T{time}Z")
+}
+
 #[test]
 fn dates_near_and_far() {
     let folder = Folder::new("stamps-dates");
@@ -123,6 +136,12 @@ fn dates_near_and_far() {
         let explained = folder.run(&["explain", "types", "data"]);
         let line = format!("{:40}time stamp = {date} UTC\n", "");
         assert!(explained.text().contains(&line), "{}", explained.text());
+        let time = iso(date);
+        let dump = folder.run(&["dump", "types", "data", "--json"]).json();
+        assert_eq!(dump.at("parts").list()[0].at("time").text(), time);
+        let explained = folder.run(&["explain", "types", "data", "--json"]).json();
+        let fields = explained.at("sections").list()[1].at("fields");
+        assert_eq!(fields.list()[0].at("time").text(), time);
     }
 }
 
@@ -136,7 +155,7 @@ fn a_stamp_for_scripts() {
     assert_eq!(parts.len(), 7);
     let line = concat!(
         r#"{"path":[0],"name":null,"code":84,"type":"time stamp","start":4,"length":16,"#,
-        r#""time":"1903-12-31 23:59:58.0000000000000000000542101086242752217003726400434970855712890625 UTC","#,
+        r#""time":"1903-12-31T23:59:58.0000000000000000000542101086242752217003726400434970855712890625Z","#,
         r#""seconds":-2,"fraction":1,"bits":"FFFFFFFFFFFFFFFE0000000000000001"}"#,
     );
     assert_eq!(parts[1], parse(line).expect("it is JSON"));
@@ -334,12 +353,12 @@ fn a_path_that_leads_to_no_stamp_is_trouble() {
 fn stamps_turn_as_their_integers_do() {
     let folder = coat("stamps-little");
     let words = ["little", "coat.hex", "data-coat.hex", "-o", "little.hex"];
-    folder.run(&words).gives("little.hex: 36 bytes written\n");
+    folder.run(&words).writes("little.hex: 36 bytes written");
     folder
         .run(&["view", "coat.hex", "little.hex", "start"])
         .gives("# 16 bytes at 4\n0000 0000 A6CA 06E2 0000 00C0 0000 0000\n");
     let words = ["big", "coat.hex", "little.hex", "-o", "big.hex"];
-    folder.run(&words).gives("big.hex: 36 bytes written\n");
+    folder.run(&words).writes("big.hex: 36 bytes written");
     let dump = |data: &str| {
         let ran = folder.run(&["dump", "coat.hex", data]);
         ran.text()

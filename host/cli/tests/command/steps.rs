@@ -81,9 +81,9 @@ fn a_view_is_text_that_can_be_read_again() {
 #[test]
 fn a_view_goes_to_a_file() {
     let folder = bath("steps-view-file");
-    on_bath(&folder, "view", &["blank", "id", "-o", "id"]).gives("id: 4 bytes written\n");
+    on_bath(&folder, "view", &["blank", "id", "-o", "id"]).writes("id: 4 bytes written");
     assert_eq!(folder.read("id"), [0, 0, 0, 9]);
-    on_bath(&folder, "view", &["blank", "id", "-o", "id.HEX"]).gives("id.HEX: 4 bytes written\n");
+    on_bath(&folder, "view", &["blank", "id", "-o", "id.HEX"]).writes("id.HEX: 4 bytes written");
     assert_eq!(folder.read("id.HEX"), b"0000 0009\n");
     assert_eq!(
         on_bath(&folder, "view", &["blank", "id", "-o", "-"]).out,

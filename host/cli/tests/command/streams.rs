@@ -3,6 +3,7 @@
 use std::fs::OpenOptions;
 use std::process::{Output, Stdio};
 
+use crate::common::books::{blank, plain};
 use crate::common::descriptors::{array, descriptor};
 use crate::common::{Folder, Ran};
 
@@ -164,11 +165,26 @@ fn nobody_reads_standard_error() {
 fn closed_streams() {
     let folder = folder("streams-closed");
     for (line, status) in [
-        ("\"$K\" check good >&-", 0),
+        ("\"$K\" check good >&-", 2),
+        ("\"$K\" check good --json >&-", 2),
+        ("\"$K\" check good 2>&-", 0),
         ("\"$K\" check bad >&-", 1),
+        ("\"$K\" check bad --json >&-", 2),
         ("\"$K\" check bad 2>&-", 1),
         ("\"$K\" check missing >&- 2>&-", 2),
-        ("\"$K\" compare good other >&- 2>&-", 3),
+        ("\"$K\" compare good other >&- 2>&-", 2),
+        ("\"$K\" --help >&-", 2),
+        ("\"$K\" --version >&- 2>&-", 2),
+        ("\"$K\" normal good -o - >&-", 2),
+        ("\"$K\" normal good -o /dev/stdout >&-", 2),
+        ("\"$K\" normal good -o /dev/stderr 2>&-", 2),
+        ("\"$K\" normal good -o out >&- 2>&-", 0),
+        ("\"$K\" normal good -o out --json >&-", 2),
+        // What is open for reading alone can't be written to either.
+        ("\"$K\" check good 1<good", 2),
+        // Nobody wants to know.
+        ("\"$K\" check good > /dev/null", 0),
+        ("\"$K\" check good 1<>/dev/null 2<>/dev/null <&1", 0),
         ("\"$K\" check - <&-", 1),
     ] {
         let ran = folder.shell(line);
@@ -178,6 +194,87 @@ fn closed_streams() {
             "{line}"
         );
     }
+}
+
+#[test]
+fn what_a_closed_standard_output_is_told_as() {
+    let folder = folder("streams-closed-told");
+    let line = "standard output: Bad file descriptor (os error 9)";
+    for words in ["check good", "compare good other", "normal good", "--help"] {
+        let ran = Ran::of(folder.shell(&format!("exec \"$K\" {words} >&-")));
+        ran.troubles(line);
+    }
+    // A book is changed before that is told.
+    folder.put("book", &plain(4, 200, &[9]));
+    folder.put("blank", &blank());
+    folder.put("seven", &[0, 0, 0, 7]);
+    for (to, error) in [
+        (">&-", "Bad file descriptor (os error 9)"),
+        ("> /dev/full", "No space left on device (os error 28)"),
+    ] {
+        folder.put("book", &plain(4, 200, &[9]));
+        let ran = folder.shell(&format!("exec \"$K\" book add book blank seven {to}"));
+        Ran::of(ran).troubles(&format!(
+            "standard output: {error}; the record is in the book"
+        ));
+        assert_eq!(folder.read("book"), plain(4, 200, &[9, 7]));
+        let new = "book new made --capacity 4 --bytes 200";
+        let ran = folder.shell(&format!("rm -f made; exec \"$K\" {new} {to}"));
+        Ran::of(ran).troubles(&format!("standard output: {error}; the book is made"));
+        assert_eq!(folder.read("made"), plain(4, 200, &[]));
+    }
+}
+
+#[test]
+fn a_note_is_not_mixed_with_what_is_written() {
+    let folder = folder("streams-note");
+    let bytes = folder.read("good");
+    let run = |line: &str| {
+        let ran = folder.shell(&format!("exec \"$K\" {line}"));
+        assert_eq!(ran.status.code(), Some(0), "{line}");
+        (
+            ran.stdout,
+            String::from_utf8_lossy(&ran.stderr).into_owned(),
+        )
+    };
+    folder.shell("ln -s /dev/stdout link");
+    for out in ["-", "/dev/stdout", "/dev/fd/1", "/proc/self/fd/1", "link"] {
+        let line = format!("normal good -o {out}");
+        assert_eq!(run(&line), (bytes.clone(), String::new()), "{out}");
+    }
+    let error = run("normal good -o /dev/stderr");
+    assert_eq!((error.0, error.1.as_bytes()), (vec![], &bytes[..]));
+    let noted = run("normal good -o out");
+    assert_eq!(noted, (vec![], "kerbcanopy: out: 4 bytes written\n".into()));
+    let (page, note) = run("explain good --html -o /dev/stdout");
+    assert_eq!((page, note), run("explain good --html"));
+}
+
+#[test]
+fn a_stream_is_written_to_and_not_replaced() {
+    let folder = folder("streams-kept");
+    let bytes = folder.read("good");
+    // What others write to the same file stays.
+    for (name, to) in [
+        ("stdout", ">> log"),
+        ("fd/1", "> log"),
+        ("stderr", "2>> log"),
+    ] {
+        folder.put("log", b"before");
+        let out = format!("{{ echo; \"$K\" normal good -o /dev/{name}; echo behind >&2; }} {to}");
+        let ran = folder.shell(&out);
+        assert!(ran.status.success());
+        let log = folder.read("log");
+        let at = log.windows(4).position(|part| part == bytes);
+        assert!(at.is_some(), "{name}: {log:?}");
+        assert_eq!(log.starts_with(b"before"), to.contains(">>"), "{name}");
+    }
+    let names = folder.names();
+    assert!(!names.iter().any(|name| name.starts_with('.')), "{names:?}");
+    let trouble =
+        "normal can't give --json and -o /dev/stdout in one; see kerbcanopy normal --help";
+    let ran = folder.run(&["normal", "good", "--json", "-o", "/dev/stdout"]);
+    assert_eq!((ran.status, ran.complaint()), (2, trouble));
 }
 
 #[test]

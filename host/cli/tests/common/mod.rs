@@ -40,7 +40,12 @@ pub struct Folder {
 
 impl Folder {
     pub fn new(test: &str) -> Folder {
-        let path = Path::new(env!("CARGO_TARGET_TMPDIR")).join(test);
+        Folder::below(Path::new(env!("CARGO_TARGET_TMPDIR")), test)
+    }
+
+    /// The same in another place.
+    pub fn below(top: &Path, test: &str) -> Folder {
+        let path = top.join(test);
         let _ = fs::remove_dir_all(&path);
         fs::create_dir_all(&path).expect("the folder can be made");
         Folder { path }
@@ -111,24 +116,37 @@ impl Folder {
 pub struct Ran {
     pub status: i32,
     pub out: Vec<u8>,
+    /// The line on standard error that a file was written; else empty.
+    pub note: String,
+    /// What else is there.
     pub err: String,
 }
 
 impl Ran {
     /// Takes the output, and holds it to what every run keeps: standard error has
-    /// one line where the status is not 0, else none, and can steer no terminal.
+    /// one line where the status is not 0, else none, behind a note where a file was
+    /// written, and can steer no terminal.
     pub fn of(output: Output) -> Ran {
         let status = output.status.code().expect("it ends by itself");
-        let err = String::from_utf8(output.stderr).expect("its words are text");
-        assert!(is_tame(&err), "{err:?}");
+        let told = String::from_utf8(output.stderr).expect("its words are text");
+        assert!(is_tame(&told), "{told:?}");
+        let (note, err) = match told.split_once('\n') {
+            Some((first, rest)) if first.ends_with(" written") => (first, rest),
+            _ => ("", &told[..]),
+        };
+        assert!(note.is_empty() || note.starts_with("kerbcanopy: "));
         if status == 0 {
             assert_eq!(err, "");
         } else {
             assert!(err.starts_with("kerbcanopy: "), "{err:?}");
             assert!(err.ends_with('\n') && err.lines().count() == 1, "{err:?}");
         }
-        let out = output.stdout;
-        Ran { status, out, err }
+        Ran {
+            status,
+            out: output.stdout,
+            note: note.into(),
+            err: err.into(),
+        }
     }
 
     /// Standard output, which can steer no terminal either.
@@ -146,23 +164,30 @@ impl Ran {
 
     #[track_caller]
     pub fn gives(&self, answer: &str) {
-        assert_eq!(self.err, "");
+        assert_eq!((&self.note[..], &self.err[..]), ("", ""));
         assert_eq!(self.text(), answer);
         assert_eq!(self.status, 0);
+    }
+
+    /// A file is written, of which this note is said and nothing else.
+    #[track_caller]
+    pub fn writes(&self, note: &str) {
+        assert_eq!(self.note, format!("kerbcanopy: {note}"));
+        assert_eq!((self.status, self.text(), &self.err[..]), (0, "", ""));
     }
 
     /// It is refused in this line, and nothing else is said.
     #[track_caller]
     pub fn refuses(&self, line: &str) {
         assert_eq!(self.complaint(), line);
-        assert_eq!((self.status, self.text()), (1, ""));
+        assert_eq!((self.status, self.text(), &self.note[..]), (1, "", ""));
     }
 
     /// It is a wrong use or trouble with a file, told in this line.
     #[track_caller]
     pub fn troubles(&self, line: &str) {
         assert_eq!(self.complaint(), line);
-        assert_eq!((self.status, self.text()), (2, ""));
+        assert_eq!((self.status, self.text(), &self.note[..]), (2, "", ""));
     }
 
     /// Standard output as JSON: one line of ASCII.

@@ -8,6 +8,7 @@
      full    it fails, and so does every later one but those that take something away
      short   it writes half of what it is to write, and every later write fails
      halves  every write writes half, whatever CALLS_AT
+     linked  the file CALLS_FROM gets the name CALLS_TO, too, before it
      nolock  no file can be locked, whatever CALLS_AT */
 #define _GNU_SOURCE
 #include <dlfcn.h>
@@ -21,6 +22,7 @@
 #include <sys/syscall.h>
 #include <sys/types.h>
 #include <sys/uio.h>
+#include <sys/xattr.h>
 #include <unistd.h>
 
 static long count;
@@ -64,6 +66,8 @@ static int fails(const char *name)
     log_call(name);
     if (count == at && how("before"))
         end();
+    if (count == at && how("linked"))
+        syscall(SYS_linkat, AT_FDCWD, getenv("CALLS_FROM"), AT_FDCWD, getenv("CALLS_TO"), 0);
     int removes = !strncmp(name, "unlink", 6);
     if ((count == at && how("fail")) || (at && count >= at && how("full") && !removes)) {
         errno = (int)number("CALLS_ERROR", ENOSPC);
@@ -109,6 +113,8 @@ CHANGES(chmod, (const char *path, mode_t mode), (path, mode))
 CHANGES(fchmod, (int fd, mode_t mode), (fd, mode))
 CHANGES(fchmodat, (int fd, const char *path, mode_t mode, int flags), (fd, path, mode, flags))
 CHANGES(fchown, (int fd, uid_t user, gid_t group), (fd, user, group))
+CHANGES(fsetxattr, (int fd, const char *name, const void *value, size_t size, int flags), (fd, name, value, size, flags))
+CHANGES(fremovexattr, (int fd, const char *name), (fd, name))
 
 #define OPENS(name, parameters, arguments)                \
     int name parameters                                   \

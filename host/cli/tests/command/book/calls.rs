@@ -41,6 +41,16 @@ pub fn with_error(folder: &Folder, words: &[&str], how: &str, at: usize, error: 
     command.output().expect("the command starts")
 }
 
+/// Runs the words, and gives a file another name before one of its calls.
+pub fn run_linked(folder: &Folder, words: &[&str], from: &str, to: &str, at: usize) -> Output {
+    let mut command = folder.command(words);
+    command.env("LD_PRELOAD", library());
+    command.env("CALLS_HOW", "linked");
+    command.env("CALLS_FROM", from).env("CALLS_TO", to);
+    command.env("CALLS_AT", at.to_string());
+    command.output().expect("the command starts")
+}
+
 /// Runs the words, and gives the names of the calls that they come to.
 pub fn listed(folder: &Folder, words: &[&str]) -> Vec<String> {
     let log = folder.path.join("calls.log");

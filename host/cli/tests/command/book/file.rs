@@ -182,9 +182,9 @@ fn a_found_body_does_not_replace_its_book() {
     Ran::of(fed).troubles("book: it is the book itself, and not replaced");
     assert_eq!(folder.read("book"), plain(4, 200, &[9, 14]));
     let fed = folder.shell("exec \"$K\" book find - 9 -o other < book");
-    Ran::of(fed).gives("other: 20 bytes written\n");
+    Ran::of(fed).writes("other: 20 bytes written");
     let words = ["book", "find", "book", "9", "--descriptor", "-o", "types"];
-    folder.run(&words).gives("types: 16 bytes written\n");
+    folder.run(&words).writes("types: 16 bytes written");
     assert_eq!(folder.read("types"), blank());
 }
 

@@ -8,19 +8,19 @@ use super::{add, data, shelf};
 use crate::common::Folder;
 use crate::common::books::plain;
 
-const ADD: [&str; 5] = ["book", "add", "book", "types", "data-7"];
-const NEW: [&str; 7] = ["book", "new", "made", "--capacity", "4", "--bytes", "200"];
+pub const ADD: [&str; 5] = ["book", "add", "book", "types", "data-7"];
+pub const NEW: [&str; 7] = ["book", "new", "made", "--capacity", "4", "--bytes", "200"];
 
 /// What is done to change a book, and to make one: the last write says so.
-const ADD_CALLS: [&str; 8] = [
+pub const ADD_CALLS: [&str; 8] = [
     "unlink", "open64", "fchmod", "write", "fsync", "rename", "fsync", "write",
 ];
-const NEW_CALLS: [&str; 7] = [
+pub const NEW_CALLS: [&str; 7] = [
     "open64", "write", "fsync", "linkat", "unlink", "fsync", "write",
 ];
 
 /// A folder whose book has records 9 and 14, and is to get 7.
-fn adding(test: &str) -> Folder {
+pub fn adding(test: &str) -> Folder {
     let folder = shelf(test);
     data(&folder, 7);
     folder
@@ -193,6 +193,29 @@ fn a_new_book_is_whole_or_not_there() {
             for name in folder.names() {
                 assert!(name == "made" || name.starts_with(".kerbcanopy-"), "{name}");
                 std::fs::remove_file(folder.path.join(name)).expect("it is there");
+            }
+        }
+    }
+}
+
+#[test]
+fn a_book_whose_making_was_killed_can_be_added_to() {
+    let folder = adding("book-new-left");
+    for at in 1..=NEW_CALLS.len() {
+        for how in ["before", "after"] {
+            let killed = run_with(&folder, &NEW, how, at);
+            assert_eq!(killed.status.code(), None);
+            if folder.path.join("made").exists() {
+                let added = folder.run(&["book", "add", "made", "types", "data-7"]);
+                assert_eq!(added.status, 0, "{how} {at}: {added:?}");
+                assert_eq!(folder.read("made"), plain(4, 200, &[7]));
+                // Nothing is left of its making.
+                assert_eq!(folder.names(), ["book", "data-7", "made", "types"]);
+            }
+            for name in folder.names() {
+                if name == "made" || name.starts_with('.') {
+                    std::fs::remove_file(folder.path.join(name)).expect("it is there");
+                }
             }
         }
     }

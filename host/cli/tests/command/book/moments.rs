@@ -1,6 +1,6 @@
 //! Kills at any moment of an add, of one alone and of one among others.
 
-use std::process::{Output, Stdio};
+use std::process::{Child, Output, Stdio};
 use std::thread;
 use std::time::{Duration, Instant};
 
@@ -27,7 +27,10 @@ fn add_killed(folder: &Folder, identifier: u32, patience: Duration) -> Output {
     let name = data(folder, identifier);
     let mut command = folder.command(&["book", "add", "book", "types", &name]);
     command.stdout(Stdio::piped()).stderr(Stdio::piped());
-    let mut child = command.spawn().expect("the command starts");
+    killed_after(command.spawn().expect("the command starts"), patience)
+}
+
+fn killed_after(mut child: Child, patience: Duration) -> Output {
     thread::sleep(patience);
     child.kill().expect("it is ours");
     child.wait_with_output().expect("it ends")
@@ -103,6 +106,40 @@ fn a_thousand_kills_lose_nothing() {
     let ends = ends.fold([0; 2], |all, one| [all[0] + one[0], all[1] + one[1]]);
     // Both the old book and the new one were met.
     assert!(ends[0] > 0 && ends[1] > 0, "{ends:?}");
+}
+
+/// How many times the making of a book is killed.
+const MAKINGS: usize = 200;
+
+#[test]
+fn a_book_whose_making_was_killed_can_be_added_to() {
+    let folder = Folder::new("book-random-new");
+    folder.put("types", &blank());
+    data(&folder, 7);
+    let words = ["book", "new", "book", "--capacity", "4", "--bytes", "200"];
+    let begun = Instant::now();
+    assert_eq!(folder.run(&words).status, 0);
+    let taken = begun.elapsed();
+    let mut random = Random(7);
+    for _ in 0..MAKINGS {
+        for name in folder.names() {
+            if name == "book" || name.starts_with('.') {
+                std::fs::remove_file(folder.path.join(name)).expect("it is there");
+            }
+        }
+        let patience = taken.mul_f64(random.below(1500) as f64 / 1000.0);
+        let mut command = folder.command(&words);
+        command.stdout(Stdio::piped()).stderr(Stdio::piped());
+        let output = killed_after(command.spawn().expect("the command starts"), patience);
+        let made = folder.path.join("book").exists();
+        assert!(made || !reported(&output), "{output:?}");
+        if made {
+            assert_eq!(folder.read("book"), plain(4, 200, &[]));
+            assert_eq!(add(&folder, 7).status, 0);
+            assert_eq!(folder.read("book"), plain(4, 200, &[7]));
+            assert_eq!(folder.names(), ["book", "data-7", "types"]);
+        }
+    }
 }
 
 /// Adds these records, each again and again until one of the tries says that it is there;

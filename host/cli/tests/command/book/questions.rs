@@ -225,12 +225,12 @@ fn a_body_s_parts_are_given_apart() {
         r#""start":104,"length":4,"descriptor":16,"data":4,"bytes":"0000000E"}"#,
         "\n"
     ));
-    find(&["--descriptor", "-o", "t"]).gives("t: 16 bytes written\n");
-    find(&["--data", "-o", "d.hex"]).gives("d.hex: 4 bytes written\n");
+    find(&["--descriptor", "-o", "t"]).writes("t: 16 bytes written");
+    find(&["--data", "-o", "d.hex"]).writes("d.hex: 4 bytes written");
     assert_eq!(folder.read("t"), blank());
     assert_eq!(folder.read("d.hex"), b"0000 000E\n");
     folder.run(&["value", "t", "d.hex", "blank"]).gives("14\n");
-    find(&["-o", "body"]).gives("body: 20 bytes written\n");
+    find(&["-o", "body"]).writes("body: 20 bytes written");
     assert_eq!(folder.read("body"), [&blank()[..], &[0, 0, 0, 14]].concat());
     assert_eq!(find(&["--data", "-o", "-"]).out, [0, 0, 0, 14]);
     find(&["--data", "-o", "d", "--json"]).gives(concat!(
