@@ -11,12 +11,13 @@ use Rattle.descriptor.specs.declared.answer.Row.{Row}
 use Rattle.flattened.specs.inner.Types.{typeAt}
 use Rattle.members.specs.inner.Members.{Inner, topAt, placeFrom, typeFrom}
 use Rattle.members.specs.inner.Names.{nameOf, namedAt, hasChars, NamesLie}
-use Rattle.members.specs.inner.Chains.{markOf, lastOf, Chained}
+use Rattle.members.specs.inner.Chains.{markOf, lastOf, Linked, Chained}
 use Rattle.members.proofs.Listing.{member-inner, member-name, names-lie}
 use Rattle.members.proofs.Chaining.{same-mark, last-most, last-is, Follows, follows-head, follows-link}
 use Rattle.resolution.specs.Record.{Member, matches, namesakes, searched}
 use Rattle.resolution.specs.inner.Data.{memberFrom, membersFor}
-use Rattle.resolution.specs.inner.Searching.{Listed, allMembers, bare, Seeks}
+use Rattle.resolution.specs.inner.Searching.{Listed, allMembers, bare, Finds}
+use Rattle.resolution.specs.declared.Search.{Search}
 use Rattle.resolution.specs.declared.Search.the-variants.{Missing, Doubled, Found}
 
 -- a member of the name x
@@ -31,6 +32,13 @@ never-missing row e = let z : _≡_ {A = ℕ} 0 1 = cc in omega arith
 
 never-doubled : (row : Row) → Doubled ≡ Found row → ⊥
 never-doubled row e = let z : _≡_ {A = ℕ} 0 1 = cc in omega arith
+
+-- where one member is found and stands at the end, no other stands before it
+one-found : (ms : List Member) (a : Member) (row : Row) → searched (ms ++ (a ∷ [])) ≡ Found row → ms ++ (a ∷ []) ≡ a ∷ []
+unfolding searched
+one-found [] a row e = refl
+one-found (m ∷ []) a row e = absurd (never-doubled row e)
+one-found (m ∷ n ∷ ms) a row e = absurd (never-doubled row e)
 
 -- two members at the end are two at least
 two-found : (ms : List Member) (a b : Member) → searched ((ms ++ (a ∷ [])) ++ (b ∷ [])) ≡ Doubled
@@ -68,6 +76,14 @@ members-more w p s i (suc n) =
 pub listed-lie : (w : List ℕ) (k : ℕ) (places names : List ℕ) → Listed w k places names → NamesLie w names k
 listed-lie w k places names listed = names-lie w k (topAt w) (listed .members) names (listed .naming)
 
+-- the search starts at the head of the mark, and finds the last of all
+module _ (w : List ℕ) (k : ℕ) (names x heads links : List ℕ) (chained : Chained w names k heads links) (m : ℕ) (em : m ≡ markOf x) (small : m < 256) (from : ℕ) (ef : from ≡ getD heads m 0) where
+  pub seek-head : Follows w names k k x from
+  seek-head = follows-head w names k x heads links chained m em small from ef
+
+  pub seek-last : (last : ℕ) → last ≡ lastOf (hasChars x) w names from → last ≡ lastOf (hasChars x) w names k
+  seek-last last el = el ∙ sym (seek-head .same)
+
 module _ (w : List ℕ) (k : ℕ) (places names x : List ℕ) (listed : Listed w k places names) where
   module _ (s : List ℕ) where
     -- the namesakes among the first n members
@@ -104,60 +120,60 @@ module _ (w : List ℕ) (k : ℕ) (places names x : List ℕ) (listed : Listed w
         go true before = refl
         go false before = before
 
-  module _ (heads links : List ℕ) (chained : Chained w names k heads links) (m : ℕ) (em : m ≡ markOf x) (small : m < 256) (from : ℕ) (ef : from ≡ getD heads m 0) where
-    -- the search starts at the head of the mark
-    pub seek-head : Follows w names k k x from
-    seek-head = follows-head w names k x heads links chained m em small from ef
+  module _ (last : ℕ) (whole : last ≡ lastOf (hasChars x) w names k) where
+    pub seek-missing : last ≡ 0 → Finds w k x Missing
+    unfolding searched
+    seek-missing none = record { eq = λ s. sym (ap searched (up-to-last s k (omega arith) ∙ ap (upToLast s) (sym whole ∙ none))) }
 
-    module _ (last : ℕ) (el : last ≡ lastOf (hasChars x) w names from) where
-      whole : last ≡ lastOf (hasChars x) w names k
-      whole = el ∙ sym (seek-head .same)
+    module _ (some : last ≡ 0 → ⊥) where
+      pub seek-within : last - 1 < k
+      seek-within = omega (arith, some, whole, last-most w names (hasChars x) k)
 
-      pub seek-missing : last ≡ 0 → Seeks w k x (record { found = Missing; member = 0 })
+      up-to-it : (s : List ℕ) → namesakes (bare x) (allMembers w k s) ≡ upTo s (last - 1) ++ (memberFrom w (topAt w) s (last - 1) ∷ [])
+      up-to-it s = up-to-last s k (omega arith) ∙ ap (upToLast s) (sym whole ∙ (let z : last ≡ suc (last - 1) = omega (arith, some) in z))
+
+      -- goes on before the last
+      module _ (links : List ℕ) (linked : Linked w names k links) (next : ℕ) (en : next ≡ getD links (last - 1) 0) where
+        pub seek-link : Follows w names k (last - 1) x next
+        seek-link =
+            follows-link w names k x links linked (last - 1) seek-within
+            (same-mark x _ (ap (λ (n : ℕ). hasChars x (namedAt w (getD names (n - 1) 0))) whole ∙ last-is w names (hasChars x) k (omega (arith, some, whole)))) next en
+
+        module _ (second : ℕ) (es : second ≡ lastOf (hasChars x) w names next) where
+          others : (s : List ℕ) → upTo s (last - 1) ≡ upToLast s second
+          others s = up-to-last s (last - 1) (omega (arith, seek-within)) ∙ ap (upToLast s) (seek-link .same ∙ sym es)
+
+          pub seek-doubled : (second ≡ 0 → ⊥) → Finds w k x Doubled
+          seek-doubled more = record {
+            eq = λ s.
+                sym (ap searched (up-to-it s ∙ ap (λ (l : List Member). l ++ (memberFrom w (topAt w) s (last - 1) ∷ [])) (others s ∙ ap (upToLast s) (let z : second ≡ suc (second - 1) = omega (arith, more) in z)))
+                ∙ two-found (upTo s (second - 1)) _ _);
+          }
+
+          -- and ends with it
+          module _ (alone : second ≡ 0) (p : ℕ) (ep : p ≡ getD places (last - 1) 0) where
+            pub seek-inner : Inner w p
+            seek-inner =
+                subst (λ (q : ℕ). Inner w q) (sym (ep ∙ listed .standing .at (last - 1) seek-within)) (member-inner w k (topAt w) (listed .members) (last - 1) seek-within)
+
+            pub seek-found : (row : Row) → row ≡ rowOf p 2 (typeAt w p) → Finds w k x (Found row)
+            unfolding searched
+            seek-found row er =
+                let it : (s : List ℕ) → namesakes (bare x) (allMembers w k s) ≡ memberFrom w (topAt w) s (last - 1) ∷ [] =
+                λ s. up-to-it s ∙ ap (λ (l : List Member). l ++ (memberFrom w (topAt w) s (last - 1) ∷ [])) (others s ∙ ap (upToLast s) alone) in
+                let is : row ≡ rowOf (placeFrom w (topAt w) (last - 1)) 2 (typeFrom w (topAt w) (last - 1)) =
+                er ∙ ap (λ (q : ℕ). rowOf q 2 (typeAt w q)) (ep ∙ listed .standing .at (last - 1) seek-within) in
+                record { eq = λ s. ap Found is ∙ sym (ap searched (it s)) }
+
+    -- a member that was found is the last of its name, and the only one
+    module _ (found : Search) (finds : Finds w k x found) (row : Row) (is : found ≡ Found row) where
+      pub sought-some : last ≡ 0 → ⊥
       unfolding searched
-      seek-missing none = record {
-        found = λ s. sym (ap searched (up-to-last s k (omega arith) ∙ ap (upToLast s) (sym whole ∙ none)));
-        which = λ row e. absurd (never-missing row e);
-      }
+      sought-some none = never-missing row (ap searched (sym (up-to-last [] k (omega arith) ∙ ap (upToLast []) (sym whole ∙ none))) ∙ sym (finds .eq []) ∙ is)
 
-      module _ (some : last ≡ 0 → ⊥) where
-        pub seek-within : last - 1 < k
-        seek-within = omega (arith, some, whole, last-most w names (hasChars x) k)
+      pub sought-within : last - 1 < k
+      sought-within = seek-within sought-some
 
-        up-to-it : (s : List ℕ) → namesakes (bare x) (allMembers w k s) ≡ upTo s (last - 1) ++ (memberFrom w (topAt w) s (last - 1) ∷ [])
-        up-to-it s = up-to-last s k (omega arith) ∙ ap (upToLast s) (sym whole ∙ (let z : last ≡ suc (last - 1) = omega (arith, some) in z))
-
-        -- goes on before the last
-        module _ (next : ℕ) (en : next ≡ getD links (last - 1) 0) where
-          pub seek-link : Follows w names k (last - 1) x next
-          seek-link =
-              follows-link w names k x links (chained .linked) (last - 1) seek-within
-              (same-mark x _ (ap (λ (n : ℕ). hasChars x (namedAt w (getD names (n - 1) 0))) whole ∙ last-is w names (hasChars x) k (omega (arith, some, whole)))) next en
-
-          module _ (second : ℕ) (es : second ≡ lastOf (hasChars x) w names next) where
-            others : (s : List ℕ) → upTo s (last - 1) ≡ upToLast s second
-            others s = up-to-last s (last - 1) (omega (arith, seek-within)) ∙ ap (upToLast s) (seek-link .same ∙ sym es)
-
-            pub seek-doubled : (second ≡ 0 → ⊥) → Seeks w k x (record { found = Doubled; member = 0 })
-            seek-doubled more = record {
-              found = λ s.
-                  sym (ap searched (up-to-it s ∙ ap (λ (l : List Member). l ++ (memberFrom w (topAt w) s (last - 1) ∷ [])) (others s ∙ ap (upToLast s) (let z : second ≡ suc (second - 1) = omega (arith, more) in z)))
-                  ∙ two-found (upTo s (second - 1)) _ _);
-              which = λ row e. absurd (never-doubled row e);
-            }
-
-            -- and ends with it
-            module _ (alone : second ≡ 0) where
-              pub seek-inner : (p : ℕ) → p ≡ getD places (last - 1) 0 → Inner w p
-              seek-inner p e =
-                  subst (λ (q : ℕ). Inner w q) (sym (e ∙ listed .standing .at (last - 1) seek-within)) (member-inner w k (topAt w) (listed .members) (last - 1) seek-within)
-
-              pub seek-found : (p : ℕ) → p ≡ getD places (last - 1) 0 → (row : Row) → row ≡ rowOf p 2 (typeAt w p)
-                  → Seeks w k x (record { found = Found row; member = last - 1 })
-              unfolding searched
-              seek-found p ep row er =
-                  let it : (s : List ℕ) → namesakes (bare x) (allMembers w k s) ≡ memberFrom w (topAt w) s (last - 1) ∷ [] =
-                  λ s. up-to-it s ∙ ap (λ (l : List Member). l ++ (memberFrom w (topAt w) s (last - 1) ∷ [])) (others s ∙ ap (upToLast s) alone) in
-                  let is : row ≡ rowOf (placeFrom w (topAt w) (last - 1)) 2 (typeFrom w (topAt w) (last - 1)) =
-                  er ∙ ap (λ (q : ℕ). rowOf q 2 (typeAt w q)) (ep ∙ listed .standing .at (last - 1) seek-within) in
-                  record { found = λ s. ap Found is ∙ sym (ap searched (it s)); which = λ r e. (seek-within, it) }
+      pub sought-alone : (s : List ℕ) → namesakes (bare x) (allMembers w k s) ≡ memberFrom w (topAt w) s (last - 1) ∷ []
+      sought-alone s =
+          up-to-it sought-some s ∙ one-found (upTo s (last - 1)) _ row (ap searched (sym (up-to-it sought-some s)) ∙ sym (finds .eq s) ∙ is)

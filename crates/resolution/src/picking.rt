@@ -1,6 +1,7 @@
 // The rig's members that a reader's members are read from.
 use super::Search;
 use super::equality::same_type;
+use super::namesakes::last_named;
 use super::namesakes::search;
 use super::namesakes::search_number;
 use descriptor::step::Step;
@@ -34,15 +35,15 @@ pub fn pick(
     requires { ⌜ Called (now r) q y ⌝ }
     ensures { λ x. ⌜ Picks (now (w .entry)) k (typeAt (now (r .entry)) q) j x ⌝ }
 {
-    let sought = search(w, k, places, names, heads, links, r, y);
-    let found = sought.found;
+    let last = last_named(w, k, names, heads, links, r, y);
+    let found = search(w, k, places, names, links, r, y, last);
     let Search::Found(row) = found else {
         return refuse(search_number(found), j);
     };
     if !same_type(r, q, w, wide(row.start)) {
         return refuse(44, j);
     }
-    accept(0, sought.member, 0)
+    accept(0, last - 1, 0)
 }
 
 // The members of w that the n members of r are read from, in order, into `picks`; the value is how long their bytes are, joined. The first

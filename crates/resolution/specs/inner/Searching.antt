@@ -1,14 +1,12 @@
 -- What the search for a name among the members of a cluster finds, by their numbers.
 use mathlib.Core.Path.{_≡_}
-use mathlib.Core.List.{List, [], _∷_}
-use Prim.Native.Nat.{ℕ, _<_}
+use mathlib.Core.List.{List}
+use Prim.Native.Nat.{ℕ}
 use Rattle.descriptor.specs.Tree.{empty, named, Tree, node, nil}
-use Rattle.descriptor.specs.declared.answer.Row.{Row}
 use Rattle.members.specs.inner.Members.{Members, topAt, placeFrom, nameFrom, Column}
 use Rattle.resolution.specs.Record.{Member, namesakes, searched}
-use Rattle.resolution.specs.inner.Data.{memberFrom, membersFor}
-use Rattle.resolution.specs.declared.namesakes.Sought.{Sought}
-use Rattle.resolution.specs.declared.Search.the-variants.{Found}
+use Rattle.resolution.specs.inner.Data.{membersFor}
+use Rattle.resolution.specs.declared.Search.{Search}
 
 -- d is a cluster of k members, and the columns have their places and their names'
 pub record Listed (d : List ℕ) (k : ℕ) (places names : List ℕ) : Type 0 where
@@ -24,8 +22,6 @@ allMembers w k s = membersFor w (topAt w) s 0 k
 abbrev pub bare : List ℕ → Tree
 bare x = node 0 empty nil (named x)
 
--- the search for the name x found what the definitions say, and which member it is
-pub record Seeks (w : List ℕ) (k : ℕ) (x : List ℕ) (r : Sought) : Type 0 where
-  pub found : (s : List ℕ) → r .found ≡ searched (namesakes (bare x) (allMembers w k s))
-  pub which : (row : Row) → r .found ≡ Found row
-      → (r .member < k) × ((s : List ℕ) → namesakes (bare x) (allMembers w k s) ≡ memberFrom w (topAt w) s (r .member) ∷ [])
+-- the search for the name x found what the definitions say, whatever the data is
+pub record Finds (w : List ℕ) (k : ℕ) (x : List ℕ) (found : Search) : Type 0 where
+  pub eq : (s : List ℕ) → found ≡ searched (namesakes (bare x) (allMembers w k s))
