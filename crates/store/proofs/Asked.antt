@@ -233,6 +233,11 @@ module _ (s : List ℕ) (book : Step) (is : book ≡ counted (λ (b : Book). len
         pub find-entry : Bytes s → (r ≤ 65535) × (entryPlace r + 16 ≤ length s)
         find-entry bytes = let l = asked-lies bytes in (omega (arith, l .few, less), omega (arith, l .inside, less))
 
+        pub find-room : (e : Entry) → e ≡ spansAt s (entryPlace r) → e .start + (e .first + e .second) ≤ length s
+        find-room e ee =
+            let room : stopAt s r ≤ length s = asked-read .stops r (omega (arith, asked-count, less)) in
+            omega (arith, ap (λ (x : Entry). endOf x) ee)
+
         pub find-got : (e : Entry) → e ≡ spansAt s (entryPlace r) → record { answer = accepted 0; start = e .start; length = e .first + e .second } ≡ found s id
         unfolding blankAt
         find-got e ee =

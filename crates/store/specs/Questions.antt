@@ -6,7 +6,7 @@ use mathlib.Core.List.{List, [], _∷_, _++_}
 use Prim.Native.Nat.{ℕ, _+_, _*_}
 use lib.Dec.{leb, ltb, eqb}
 use lib.ListN.{length, replicate}
-use lib.Seq.{sets}
+use lib.Seq.{slice, sets}
 use Rattle.descriptor.specs.Encoding.{word}
 use Rattle.descriptor.specs.Outcome.{Outcome, refused, read, andThen, require, judge, settle}
 use Rattle.descriptor.specs.Answers.{accepted}
@@ -29,6 +29,10 @@ bodyPart r = record { answer = accepted 0; start = r .start; length = bodySize r
 -- "find one's whole body by identifier as a part of the book": what `store_find` answers
 unfoldable pub found : List ℕ → ℕ → Part
 found s id = judge noPart 4 (opened s) (λ b. judge noPart 4 (entryOf id 0 (b .blanks)) bodyPart)
+
+-- the bytes that `store_body` hands out
+abbrev pub foundBody : List ℕ → ℕ → List ℕ
+foundBody s id = slice (found s id .start) (found s id .start + found s id .length) s
 
 unfoldable pub identifiers : List Blank → List ℕ
 identifiers [] = []

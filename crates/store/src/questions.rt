@@ -10,8 +10,12 @@ use descriptor::answer::answered;
 use members::columns::position;
 use number::endian::be32;
 ghost use mathlib.Core.Path.{_≡_};
+ghost use Prim.Native.Nat.{_+_, _≤_};
+ghost use lib.ListN.{length};
+ghost use denote.Ref.{ptr};
+ghost use Rattle.access.specs.Path.{placeIn};
 ghost use Rattle.store.specs.Check.{bookCheck};
-ghost use Rattle.store.specs.Questions.{found, listed};
+ghost use Rattle.store.specs.Questions.{found, foundBody, listed};
 
 // Whether the bytes are a book.
 pub fn store_check(s: &[u8]) -> Answer
@@ -24,9 +28,10 @@ pub fn store_check(s: &[u8]) -> Answer
     answered(0, 0, 0)
 }
 
-// The whole body of the record with this identifier, as a part of the book.
+// Where the whole body of the record with this identifier stands in the book.
 pub fn store_find(s: &[u8], identifier: u32) -> Part
     ensures { λ r. ⌜ r ≡ found (now (s .entry)) identifier ⌝ }
+    ensures within { λ r. ⌜ r .start + r .length ≤ length (now (s .entry)) ⌝ }
 {
     let book = open_book(s);
     if !book.ok {
@@ -44,6 +49,17 @@ pub fn store_find(s: &[u8], identifier: u32) -> Part
         start: e.start,
         length: e.first + e.second,
     }
+}
+
+// The body itself; a refusal gives an empty part at the front of the book.
+pub fn store_body<'a>(s: &'a [u8], identifier: u32) -> &'a [u8]
+    ensures { λ r. ⌜ now r ≡ foundBody (now (s .entry)) identifier ⌝ }
+    ensures place { λ r. ⌜ ptr r ≡ placeIn (s .entry) (found (now (s .entry)) identifier .start) ⌝ }
+{
+    let body = store_find(s, identifier);
+    let start = body.start;
+    let end = start + body.length;
+    &s[start..end]
 }
 
 // Writes the identifiers in entry order to the front of `out`; the place is how many there are. A refusal writes nothing.

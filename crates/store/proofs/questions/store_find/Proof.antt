@@ -8,10 +8,11 @@ use borrow.Author.Tests.{not-true, not-false}
 use Rattle.descriptor.specs.declared.answer.Answer.{Answer}
 use Rattle.canonical.proofs.Lists.{bytes-of}
 use Rattle.access.specs.Path.{noPart}
+use Rattle.access.specs.declared.part.Part.{Part}
 use Rattle.store.specs.Questions.{found}
 use Rattle.store.specs.inner.Entries.{spansAt, Sought}
 use Rattle.store.specs.declared.spans.Entry.{Entry}
-use Rattle.store.proofs.Asked.{asked-place, asked-lies, find-lost, find-none, find-entry, find-got}
+use Rattle.store.proofs.Asked.{asked-place, asked-lies, find-lost, find-none, find-entry, find-room, find-got}
 use Rattle.store.proofs.questions.store_find.Statement.{statement}
 use Rattle.store.proofs.questions.store_find.Tie as tie
 
@@ -28,9 +29,8 @@ no-part-requires c κs = search needs
 
 returns : tie.Need-returns
 returns c =
-    c .no-part .ensures
-    ∙ ap (λ (a : Answer). noPart (a .number) (a .input) (a .place)) (c .before .answered .ensures)
-    ∙ find-lost (now (c .before .before .before .before .before .before .args .s)) _ (c .before .before .before .before .open-book .ensures) (not-true _ (c .before .before .if1 .taken)) (c .before .before .before .before .before .before .args .identifier)
+    let r = c .no-part .ensures ∙ ap (λ (a : Answer). noPart (a .number) (a .input) (a .place)) (c .before .answered .ensures) in
+    (r ∙ find-lost (now (c .before .before .before .before .before .before .args .s)) _ (c .before .before .before .before .open-book .ensures) (not-true _ (c .before .before .if1 .taken)) (c .before .before .before .before .before .before .args .identifier), omega (arith, ap (λ (x : Part). x .start + x .length) r))
 
 position-requires : tie.Need-position-requires
 position-requires c κs = search needs
@@ -49,10 +49,11 @@ no-part-requires-2 c κs = search needs
 returns-2 : tie.Need-returns-2
 returns-2 c =
     let s = now (c .before .before .before .before .before .before .before .before .before .args .s) in
-    c .no-part2 .ensures
-    ∙ ap (λ (a : Answer). noPart (a .number) (a .input) (a .place)) (c .before .answered2 .ensures)
-    ∙ find-none s _ (c .before .before .before .before .before .before .before .open-book .ensures) (not-false _ (c .before .before .before .before .before .if1 .left)) _ _ (c .before .before .before .seek .ensures) (c .before .before .if2 .taken)
-    ∙ ap (found s) (c .before .before .before .before .position .ensures .eq)
+    let r = c .no-part2 .ensures ∙ ap (λ (a : Answer). noPart (a .number) (a .input) (a .place)) (c .before .answered2 .ensures) in (
+      r ∙ find-none s _ (c .before .before .before .before .before .before .before .open-book .ensures) (not-false _ (c .before .before .before .before .before .if1 .left)) _ _ (c .before .before .before .seek .ensures) (c .before .before .if2 .taken)
+          ∙ ap (found s) (c .before .before .before .before .position .ensures .eq),
+      omega (arith, ap (λ (x : Part). x .start + x .length) r),
+    )
 
 entry-place-requires : tie.Need-entry-place-requires
 entry-place-requires c κs =
@@ -73,9 +74,17 @@ add-t10 c = let small = c .before .before .entry-at .ensures .1 in omega (arith,
 returns-3 : tie.Need-returns-3
 returns-3 c =
     let s = now (c .before .before .before .before .before .before .before .before .before .before .before .args .s) in
-    (λ i. record { answer = c .before .answered3 .ensures i; start = c .before .before .entry-at .result .start; length = c .before .before .entry-at .result .first + c .before .before .entry-at .result .second })
-    ∙ find-got s _ (c .before .before .before .before .before .before .before .before .before .open-book .ensures) (not-false _ (c .before .before .before .before .before .before .before .if1 .left)) _ _ (c .before .before .before .before .before .seek .ensures) (c .before .before .before .before .if2 .left) _ (c .before .before .entry-at .ensures .0 ∙ ap (spansAt s) (c .before .before .before .entry-place .ensures))
-    ∙ ap (found s) (c .before .before .before .before .before .before .position .ensures .eq)
+    let e = c .before .before .entry-at in
+    let ee = e .ensures .0 ∙ ap (spansAt s) (c .before .before .before .entry-place .ensures) in
+    let book = c .before .before .before .before .before .before .before .before .before .open-book .ensures in
+    let on = not-false _ (c .before .before .before .before .before .before .before .if1 .left) in
+    let sought = c .before .before .before .before .before .seek .ensures in
+    let some = c .before .before .before .before .if2 .left in (
+      (λ i. record { answer = c .before .answered3 .ensures i; start = e .result .start; length = e .result .first + e .result .second })
+          ∙ find-got s _ book on _ _ sought some _ ee
+          ∙ ap (found s) (c .before .before .before .before .before .before .position .ensures .eq),
+      find-room s _ book on _ _ sought some _ ee,
+    )
 
 pub store-find-spec : {M : Type 1} → statement M
 store-find-spec =
