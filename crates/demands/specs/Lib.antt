@@ -6,3 +6,4 @@ pub mod Refusals
 pub mod StampCases
 pub mod FlagCases
 pub mod OrderCases
+pub mod DamageCases

@@ -52,7 +52,7 @@ impl Entry {
     }
 
     /// Whether the entry judges data that is lent.
-    fn reads_data(self) -> bool {
+    pub fn reads_data(self) -> bool {
         let descriptors_alone = matches!(
             self,
             Entry::CheckDescriptor | Entry::Compare | Entry::NormalForm
@@ -61,7 +61,7 @@ impl Entry {
     }
 
     /// Whether the entry takes two descriptors.
-    fn reads_two(self) -> bool {
+    pub fn reads_two(self) -> bool {
         matches!(self, Entry::Compare | Entry::ReadRecord)
     }
 

@@ -8,6 +8,7 @@ mod data;
 mod descriptor;
 mod difference;
 mod entry;
+mod facts;
 mod fuzz;
 mod grow;
 mod interval;
@@ -50,6 +51,7 @@ fn main() -> ExitCode {
     seed::name_panics();
     let limits = Limits::all();
     let Checks { passed, failed } = match options.run {
+        Run::Facts => return print_facts(),
         Run::Listed(listed) => listed::run(&listed, &limits, options.exact),
         Run::Time(time) => fuzz::run(time, &limits, options.exact),
     };
@@ -57,5 +59,18 @@ fn main() -> ExitCode {
     match failed {
         0 => ExitCode::SUCCESS,
         _ => ExitCode::FAILURE,
+    }
+}
+
+fn print_facts() -> ExitCode {
+    match facts::text() {
+        Ok(text) => {
+            print!("{text}");
+            ExitCode::SUCCESS
+        }
+        Err(missing) => {
+            eprintln!("{missing}");
+            ExitCode::FAILURE
+        }
     }
 }

@@ -8,6 +8,7 @@ use crate::listed::{Listed, Met};
 
 pub const USAGE: &str =
     "usage: differential [--exact] [--cases N] [--seed S] [--case I] [--minutes M]
+       differential --facts
   no arguments   the gate run: fixed seeds, then a fresh one, each of which must
                  meet every number; together they must meet everything of
                  document 01 often enough
@@ -16,7 +17,8 @@ pub const USAGE: &str =
   --case I       case I alone, to look at a difference again
   --minutes M    fresh seeds for M minutes, up to the first difference
   --exact        every buffer in an allocation of its own length, for a memory
-                 checker, and fewer seeds and cases";
+                 checker, and fewer seeds and cases
+  --facts        prints crates/demands/specs/DamageCases.antt";
 
 /// The seeds that every gate run takes.
 const FIXED_SEEDS: [u64; 4] = [1, 2, 3, 4];
@@ -35,6 +37,7 @@ pub struct Options {
 pub enum Run {
     Listed(Listed),
     Time(Duration),
+    Facts,
 }
 
 /// The arguments as they stand.
@@ -45,6 +48,7 @@ struct Given {
     case: Option<u64>,
     minutes: Option<f64>,
     exact: bool,
+    facts: bool,
 }
 
 impl Options {
@@ -53,6 +57,10 @@ impl Options {
         let given = Given::read(arguments)?;
         let by_hand = given.seed.is_some() || given.cases.is_some() || given.case.is_some();
         let run = match given.minutes {
+            _ if given.facts && (by_hand || given.exact || given.minutes.is_some()) => {
+                return Err("--facts stands alone".into());
+            }
+            _ if given.facts => Run::Facts,
             Some(_) if by_hand => return Err("--minutes takes seeds and cases of its own".into()),
             Some(minutes) => Run::Time(Duration::from_secs_f64(60.0 * minutes)),
             None => Run::Listed(given.listed(by_hand)),
@@ -71,6 +79,7 @@ impl Given {
             let mut value = || arguments.next().ok_or(format!("{argument} needs a number"));
             match argument.as_str() {
                 "--exact" => given.exact = true,
+                "--facts" => given.facts = true,
                 "--seed" => given.seed = Some(number(&argument, &value()?)?),
                 "--cases" => given.cases = Some(number(&argument, &value()?)?),
                 "--case" => given.case = Some(number(&argument, &value()?)?),

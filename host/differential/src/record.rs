@@ -6,5 +6,5 @@ pub mod hold;
 pub mod limits;
 pub mod rig;
 mod stated;
-mod wanted;
+pub mod wanted;
 mod wide;

@@ -85,6 +85,9 @@ fn unknown_arguments_are_refused() {
         &["--seed", "x"],
         &["--minutes", "-1"],
         &["--minutes", "1", "--seed", "1"],
+        &["--facts", "--seed", "1"],
+        &["--facts", "--exact"],
+        &["--facts", "--minutes", "1"],
     ] {
         let (success, lines) = run(arguments);
         assert!(!success && lines.is_empty(), "{arguments:?}");

@@ -186,7 +186,8 @@ fn without_reserved(bytes: &[u8], checked: &reference::Checked) -> Vec<u8> {
     normal
 }
 
-fn words(row: &reference::Row) -> [u16; 7] {
+/// A row's numbers in document 01's order.
+pub fn words(row: &reference::Row) -> [u16; 7] {
     let [place, length] = [row.name_place, row.name_length];
     [
         row.code, row.start, row.size, row.depth, row.count, place, length,

@@ -91,8 +91,21 @@ impl Rig {
             true => 50_000,
             false => random.pick(&[0, 8, 40, 300]),
         };
+        let trees = grow::for_record(random);
+        Rig::with(random, trees, spare)
+    }
+
+    /// The same with at most three members, none of which has parts.
+    pub fn small(random: &mut Random) -> Rig {
+        let count = random.between(1, 3);
+        let trees = (0..count).map(|_| grow::flat(random)).collect();
+        Rig::with(random, trees, 8)
+    }
+
+    /// A rig of these trees under other names.
+    fn with(random: &mut Random, trees: Vec<Tree>, spare: usize) -> Rig {
         let mut members: Vec<Member> = Vec::new();
-        for mut tree in grow::for_record(random) {
+        for mut tree in trees {
             tree.name = writer_name(random, &members);
             members.push(Member::filled(random, tree, spare));
         }

@@ -86,11 +86,7 @@ impl Tally {
 
     /// A descriptor refused with 2 to 11.
     fn refused(&mut self, bytes: &[u8], number: u32, place: usize) {
-        // With 8 the place is the descriptor's end, which may be another's start.
-        let spot = match number {
-            8 => Spot::of(bytes, place - 1),
-            _ => Spot::of(bytes, place),
-        };
+        let spot = Spot::at_fault(bytes, number, place);
         self.deep(Deep::Refused(number), spot.depth);
         let start = spot.start;
         match number {
@@ -150,6 +146,15 @@ pub struct Spot {
 }
 
 impl Spot {
+    /// The descriptor that is refused with this number, 2 to 11, at this place.
+    pub fn at_fault(bytes: &[u8], number: u32, place: usize) -> Spot {
+        // With 8 the place is the descriptor's end, which may be another's start.
+        match number {
+            8 => Spot::of(bytes, place - 1),
+            _ => Spot::of(bytes, place),
+        }
+    }
+
     /// The descriptor that starts here, or the innermost that has this byte; all
     /// before it are in order.
     fn of(bytes: &[u8], byte: usize) -> Spot {

@@ -84,7 +84,7 @@ pub fn places() -> Table {
 impl Tally {
     /// Counts a refusal with 5 or 8 to 11 of the descriptor at this spot.
     pub(super) fn place(&mut self, bytes: &[u8], number: u32, place: usize, spot: Spot) {
-        let own = &bytes[spot.start..spot.start + word(bytes, spot.start)];
+        let own = own(bytes, spot);
         let point = point(own, number, place - spot.start);
         let last = usize::from(spot.start + own.len() == spot.end);
         let column = match spot.parent {
@@ -113,6 +113,18 @@ impl Tally {
             _ => {}
         }
     }
+}
+
+/// What a refusal of a descriptor with 5 or 8 to 11 points at, in words.
+pub fn pointed(bytes: &[u8], number: u32, place: usize) -> &'static str {
+    let spot = Spot::at_fault(bytes, number, place);
+    let point = point(own(bytes, spot), number, place - spot.start);
+    POINTS[point as usize].1
+}
+
+/// The bytes of the descriptor at this spot.
+fn own(bytes: &[u8], spot: Spot) -> &[u8] {
+    &bytes[spot.start..spot.start + word(bytes, spot.start)]
 }
 
 /// What a descriptor's own bytes show of a refusal at this place in them.
