@@ -97,11 +97,11 @@ module _ (d : List ℕ) (x : Described d) (s : List ℕ) where
           whole = accepted-whole big (x .tree) (x .limits .formed) s bytes (length s) (w .0) (w .1);
         }
 
-  -- "Data check (place is the piece count).": of the bytes of a value, as many as the value has pieces, whatever the walk makes of them
-  pub piece-count : (v : Value) → Fits (x .tree) v → length (flatten big (x .tree) v) ≤ dataLimit
-      → dataCheck d (flatten big (x .tree) v) ≡ accepted (length (pieces (x .tree) v))
-  piece-count v fits short = data-answer d (length d) (x .tree) (described-read d x) v fits short
-
   -- and data is of one value
   pub one-data : (v w : Data big (x .tree) s) → v .value ≡ w .value
   one-data = one-value big (x .tree) s
+
+-- "Data check (place is the piece count).": of the bytes of a value, as many as the value has pieces, apart from the walk
+pub piece-count : (d : List ℕ) (x : Described d) (v : Value) → Fits (x .tree) v → length (flatten big (x .tree) v) ≤ dataLimit
+    → dataCheck d (flatten big (x .tree) v) ≡ accepted (length (pieces (x .tree) v))
+piece-count d x v fits short = data-answer d (length d) (x .tree) (described-read d x) v fits short

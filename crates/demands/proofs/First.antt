@@ -1,8 +1,8 @@
--- Demand 1's "first refusal in document 01's order, with its place", of data: whatever is asked of data under an accepted descriptor, it is refused as
--- input 3 with a number and a place exactly when whole pieces stand up to the place and the piece there is cut (21), has a length or size too large where
--- all its words are there (22) or is whole and too high (23), or when a whole value stands and bytes are left (25), or the data is too long (20). Of the
--- little-endian form: "its refusals are those of the walk with these words read reversed". The public entries are all that are lent data but the book's,
--- of which `history` says that they are those of a record. Rests on the laws of values.
+-- Demand 1's "first refusal in document 01's order, with its place", of data: whatever is asked of data under an accepted descriptor, and of a record with
+-- an accepted reader's, it is refused as input 3 with a number and a place exactly when whole pieces stand up to the place and the piece there is cut (21),
+-- has a length or size too large where all its words are there (22) or is whole and too high (23), or when a whole value stands and bytes are left (25), or
+-- the data is too long (20). Of the little-endian form: "its refusals are those of the walk with these words read reversed".
+-- The public entries are all that are lent data but those of a book, of which `history` says that their refusals are a record's. Rests on the laws of values.
 use mathlib.Core.Path.{_≡_, refl, sym, ap, _∙_}
 use mathlib.Core.Logic.{_↔_}
 use mathlib.Core.Bool.{Bool, true, false, cond}

@@ -68,11 +68,10 @@ impl Outcome {
             Ok(()) => (self.status, self.complaint),
             Err(error) if error.kind() == ErrorKind::BrokenPipe => (self.status, self.complaint),
             Err(error) => {
-                let done = match self.done {
-                    "" => String::new(),
-                    done => format!("; {done}"),
-                };
-                (Status::Trouble, format!("standard output: {error}{done}"))
+                let told = [self.done, &self.complaint].into_iter();
+                let told = told.filter(|told| !told.is_empty());
+                let told: String = told.map(|told| format!("; {told}")).collect();
+                (Status::Trouble, format!("standard output: {error}{told}"))
             }
         };
         let lines = [self.note, complaint].into_iter();

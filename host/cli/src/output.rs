@@ -49,8 +49,8 @@ pub fn hand_over(answer: Answer, bytes: &[u8], options: &Options) -> Result<Outc
 /// the note would go to as well.
 pub fn note(out: &OsStr, what: &str) -> String {
     match stream::named(out) {
-        Some(_) => String::new(),
-        None => format!("{}: {what}", shown(out)),
+        Some(Stream::Output | Stream::Error) => String::new(),
+        Some(Stream::Other(_)) | None => format!("{}: {what}", shown(out)),
     }
 }
 
@@ -59,6 +59,9 @@ pub fn save(out: &OsStr, bytes: &[u8]) -> Result<(), String> {
     let saved = match stream::named(out) {
         Some(Stream::Output) => streams::output().and_then(|mut file| file.write_all(bytes)),
         Some(Stream::Error) => streams::error().and_then(|mut file| file.write_all(bytes)),
+        Some(Stream::Other(number)) => {
+            streams::other(number).and_then(|mut file| file.write_all(bytes))
+        }
         None => replace::write(Path::new(out), bytes),
     };
     saved.map_err(|error| format!("{}: {error}", shown(out)))

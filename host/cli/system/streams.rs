@@ -7,7 +7,7 @@
 use std::ffi::c_int;
 use std::fs::File;
 use std::io;
-use std::os::fd::AsFd;
+use std::os::fd::{AsFd, BorrowedFd};
 use std::sync::atomic::{AtomicBool, Ordering};
 
 /// The call that asks for a descriptor's flags, and what it says where there is none.
@@ -43,6 +43,17 @@ pub fn output() -> io::Result<File> {
 /// Standard error as a file, or that there was none when the program started.
 pub fn error() -> io::Result<File> {
     own(io::stderr(), &CLOSED[1])
+}
+
+/// The file that the program has open under this number, or that there is none.
+pub fn other(number: i32) -> io::Result<File> {
+    if number < 0 {
+        return Err(io::Error::from_raw_os_error(NO_DESCRIPTOR));
+    }
+    // SAFETY: it is borrowed for one call, which copies it where it is open and fails
+    // where it is not; nothing else runs in this program that could close it meanwhile.
+    let file = unsafe { BorrowedFd::borrow_raw(number) };
+    file.try_clone_to_owned().map(File::from)
 }
 
 fn own(stream: impl AsFd, closed: &AtomicBool) -> io::Result<File> {

@@ -57,7 +57,13 @@ fn a_full_standard_output_is_trouble() {
         &["check", "--version"],
     ] {
         let ran = Ran::of(output(&folder, words, Some(full()), None));
-        assert_eq!((ran.status, ran.complaint()), (2, FULL), "{words:?}");
+        // What standard error would have said besides stands behind it.
+        let alone = Ran::of(output(&folder, words, None, None));
+        let told = match alone.status {
+            0 => FULL.to_owned(),
+            _ => format!("{FULL}; {}", alone.complaint()),
+        };
+        assert_eq!((ran.status, ran.complaint()), (2, &told[..]), "{words:?}");
     }
 }
 
@@ -178,6 +184,8 @@ fn closed_streams() {
         ("\"$K\" normal good -o - >&-", 2),
         ("\"$K\" normal good -o /dev/stdout >&-", 2),
         ("\"$K\" normal good -o /dev/stderr 2>&-", 2),
+        ("\"$K\" normal good -o /dev/fd/7", 2),
+        ("\"$K\" normal good -o /dev/stdin < good", 2),
         ("\"$K\" normal good -o out >&- 2>&-", 0),
         ("\"$K\" normal good -o out --json >&-", 2),
         // What is open for reading alone can't be written to either.
@@ -200,10 +208,14 @@ fn closed_streams() {
 fn what_a_closed_standard_output_is_told_as() {
     let folder = folder("streams-closed-told");
     let line = "standard output: Bad file descriptor (os error 9)";
-    for words in ["check good", "compare good other", "normal good", "--help"] {
+    for words in ["check good", "compare good good", "normal good", "--help"] {
         let ran = Ran::of(folder.shell(&format!("exec \"$K\" {words} >&-")));
         ran.troubles(line);
     }
+    // What was to be told on standard error is told with it.
+    Ran::of(folder.shell("exec \"$K\" check none --json >&-")).troubles(&format!(
+        "{line}; none: No such file or directory (os error 2)"
+    ));
     // A book is changed before that is told.
     folder.put("book", &plain(4, 200, &[9]));
     folder.put("blank", &blank());
@@ -259,6 +271,8 @@ fn a_stream_is_written_to_and_not_replaced() {
         ("stdout", ">> log"),
         ("fd/1", "> log"),
         ("stderr", "2>> log"),
+        ("fd/7", "7>> log"),
+        ("../proc/thread-self/fd/1", ">> log"),
     ] {
         folder.put("log", b"before");
         let out = format!("{{ echo; \"$K\" normal good -o /dev/{name}; echo behind >&2; }} {to}");
