@@ -265,9 +265,17 @@ def _library_name() -> str:
         return named
     here = pathlib.Path(__file__).resolve().parent
     # A folder of its own, PREFIX/lib/kerbcanopy, PREFIX/lib/pythonX.Y/site-packages, and a clone's python.
-    for folder in (here, here.parent, here.parent.parent, here.parent / "target" / "shared"):
+    folders = (here, here.parent, here.parent.parent, here.parent / "target" / "shared")
+    for folder in folders:
         if (folder / _SONAME).is_file():
             return str(folder / _SONAME)
+    try:
+        ctypes.CDLL(_SONAME)
+    except OSError:
+        # One of another version is better than none: it says which it is.
+        for folder in folders:
+            for other in sorted(folder.glob("libkerbcanopy.so.*"), reverse=True):
+                return str(other)
     return _SONAME
 
 

@@ -502,18 +502,18 @@ class Versions(unittest.TestCase):
         self.assertEqual(changed, 1)
         (self.folder / "kerbcanopy.py").write_text(source, encoding="utf-8")
 
-    def imported(self, version: Optional[Tuple[int, int, int]], *entries: str) -> str:
-        """The last line of what an import says with a library of this version, or of none."""
+    def imported(self, version: Optional[Tuple[int, int, int]], *entries: str, beside: str = "") -> str:
+        """The last line of what an import says with a library of this version, or of none, that is named, or stands beside the module."""
         lines = [f"void {name}(void) {{}}" for name in entries]
         if version is not None:
             major, minor, patch = version
             lines.append(f"unsigned kc_version(void) {{ return {major << 16 | minor << 8 | patch}; }}")
-        library = str(self.folder / "library.so")
+        library = str(self.folder / (beside or "library.so"))
         subprocess.run(["gcc", "-shared", "-fPIC", "-x", "c", "-", "-o", library], input="\n".join(lines), text=True, check=True)
         run = subprocess.run(
             [sys.executable, "-s", "-B", "-c", "import kerbcanopy; print(kerbcanopy.__version__)"],
-            env={**os.environ, "PYTHONPATH": str(self.folder), "KERBCANOPY_LIBRARY": library},
-            stdout=subprocess.PIPE, stderr=subprocess.STDOUT, text=True,
+            env={**os.environ, "PYTHONPATH": str(self.folder), "KERBCANOPY_LIBRARY": "" if beside else library},
+            cwd=self.folder, stdout=subprocess.PIPE, stderr=subprocess.STDOUT, text=True,
         )
         return run.stdout.splitlines()[-1].replace(library, "LIBRARY")
 
@@ -530,6 +530,14 @@ class Versions(unittest.TestCase):
         said = "ImportError: the library LIBRARY says no version, so it is older than 0.2.0; " + needed
         self.assertEqual(self.imported(None), said)
         self.assertEqual(self.imported(None, *self.entries), said)
+
+    def test_one_of_another_version_beside_the_module_is_told(self) -> None:
+        needed = "this module needs 3.4.5, or a later one that starts with 3.4"
+        said = self.imported(None, beside="libkerbcanopy.so.0")
+        self.assertEqual(said, "ImportError: the library LIBRARY says no version, so it is older than 0.2.0; " + needed)
+        said = self.imported((3, 3, 9), beside="libkerbcanopy.so.3.3")
+        self.assertEqual(said, "ImportError: the library LIBRARY is version 3.3.9; " + needed)
+        self.assertEqual(self.imported((3, 4, 5), *self.entries, beside="libkerbcanopy.so.3.4"), "3.4.5")
 
     def test_the_library_that_is_loaded(self) -> None:
         number = kerbcanopy._library.kc_version()
