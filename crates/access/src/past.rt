@@ -9,7 +9,6 @@ use flattened::cursor::Cursor;
 use flattened::extent::Extent;
 use flattened::extent::extent_of;
 use flattened::order::Order;
-use flattened::order::number_4;
 use flattened::progress::Progress;
 use flattened::sizes::Sizes;
 use flattened::sizes::size_words;
@@ -27,15 +26,15 @@ fn past_around(before: usize, after: usize, n: usize, s: &[u8], from: Cursor) ->
     requires { ⌜ DataAt (now s) (aroundEnd before after (now s) (from .at) n) ⌝ }
     ensures { λ r. ⌜ r ≡ cursor (aroundEnd before after (now (s .entry)) (from .at) n) ⌝ }
 {
-    let mut at = from.at;
+    let mut next = from;
     let mut i = 0;
     while i < n {
-        let text = at + before;
-        let length = number_4(s, text, Order::Big) as usize;
-        at = text + 4 + length + after;
+        let text = next.past(before);
+        let length = text.number(s, Order::Big);
+        next = text.past(4 + length + after);
         i += 1;
     }
-    Cursor { at }
+    next
 }
 
 // Where n values end, each of w bytes.
@@ -43,9 +42,7 @@ fn past_fixed(w: usize, n: usize, from: Cursor) -> Cursor
     requires { ⌜ from .at + n * w ≤ dataLimit ⌝ }
     ensures { λ r. ⌜ r ≡ cursor (from .at + n * w) ⌝ }
 {
-    Cursor {
-        at: from.at + n * w,
-    }
+    from.past(n * w)
 }
 
 // Where n values of the type at p end, by the walk of them.

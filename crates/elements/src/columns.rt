@@ -92,17 +92,17 @@ fn column_around(
     limit: usize,
     n: usize,
     s: &[u8],
-    at: usize,
+    from: Cursor,
     o: Order,
 ) -> usize
     requires { ⌜ Narrow w ⌝ }
-    requires { ⌜ at ≤ length (now s) ⌝ }
-    ensures { λ r. ⌜ (r ≤ n) × BelowAround (orderOf o) (now (s .entry)) front before after at w limit r ⌝ }
+    requires { ⌜ from .at ≤ length (now s) ⌝ }
+    ensures { λ r. ⌜ (r ≤ n) × BelowAround (orderOf o) (now (s .entry)) front before after (from .at) w limit r ⌝ }
 {
     if !beside(front, before, after, w) {
         return 0;
     }
-    let mut next = Cursor { at };
+    let mut next = from;
     let mut count = 0;
     while count < n {
         let element = across(before, after, s, next, o);
@@ -158,18 +158,27 @@ fn column(
     limit: usize,
     n: usize,
     s: &[u8],
-    at: usize,
+    from: Cursor,
     o: Order,
 ) -> usize
     requires { ⌜ Narrow w ⌝ }
-    requires { ⌜ Roomy (now s) whole at n ⌝ }
-    ensures { λ r. ⌜ (r ≤ n) × EachBelow (orderOf o) (now (s .entry)) front whole at w limit r ⌝ }
+    requires { ⌜ Roomy (now s) whole (from .at) n ⌝ }
+    ensures { λ r. ⌜ (r ≤ n) × EachBelow (orderOf o) (now (s .entry)) front whole (from .at) w limit r ⌝ }
 {
     match whole {
         Extent::Varies => 0,
-        Extent::Fixed(step, tokens, judged) => column_fixed(front, step, w, limit, n, s, at, o),
+        Extent::Fixed(step, tokens, judged) => column_fixed(
+            front,
+            step,
+            w,
+            limit,
+            n,
+            s,
+            from.at,
+            o,
+        ),
         Extent::Around(before, after, tokens, judged) => {
-            column_around(front, before, after, w, limit, n, s, at, o)
+            column_around(front, before, after, w, limit, n, s, from, o)
         }
     }
 }
@@ -183,18 +192,18 @@ fn scalar_column(
     whole: Extent,
     n: usize,
     s: &[u8],
-    at: usize,
+    from: Cursor,
     o: Order,
 ) -> usize
     requires { ⌜ Stands (now d) p ⌝ }
     requires { ⌜ (w ≡ widthOf (codeIn (now d) p)) × (0 < w) ⌝ }
-    requires { ⌜ Roomy (now s) whole at n ⌝ }
-    ensures { λ r. ⌜ (r ≤ n) × EachKept (orderOf o) (now (s .entry)) (typeAt (now (d .entry)) p) front whole at r ⌝ }
+    requires { ⌜ Roomy (now s) whole (from .at) n ⌝ }
+    ensures { λ r. ⌜ (r ≤ n) × EachKept (orderOf o) (now (s .entry)) (typeAt (now (d .entry)) p) front whole (from .at) r ⌝ }
 {
     let rule = rule_of(d, p);
     match rule {
         Rule::Any => n,
-        Rule::Below(limit) => column(front, whole, w, limit, n, s, at, o),
+        Rule::Below(limit) => column(front, whole, w, limit, n, s, from, o),
     }
 }
 
@@ -206,19 +215,19 @@ fn columns_of(
     whole: Extent,
     n: usize,
     s: &[u8],
-    at: usize,
+    from: Cursor,
     o: Order,
     left: usize,
 ) -> usize
     requires { ⌜ TypeStands (now d) p left ⌝ }
     requires { ⌜ Ahead front p × Definite (joint front (extentOf (typeAt (now d) p))) ⌝ }
-    requires { ⌜ Roomy (now s) whole at n ⌝ }
-    ensures { λ r. ⌜ (r ≤ n) × EachKept (orderOf o) (now (s .entry)) (typeAt (now (d .entry)) p) front whole at r ⌝ }
+    requires { ⌜ Roomy (now s) whole (from .at) n ⌝ }
+    ensures { λ r. ⌜ (r ≤ n) × EachKept (orderOf o) (now (s .entry)) (typeAt (now (d .entry)) p) front whole (from .at) r ⌝ }
 {
     let code = code_at(d, p);
     let w = width(code);
     if w != 0 {
-        return scalar_column(d, p, w, front, whole, n, s, at, o);
+        return scalar_column(d, p, w, front, whole, n, s, from, o);
     }
     if is_compound(code) {
         let inside = inside_of(d, p);
@@ -230,7 +239,7 @@ fn columns_of(
             whole,
             n,
             s,
-            at,
+            from,
             o,
             left - 1,
         );
@@ -247,21 +256,21 @@ fn columns_row(
     whole: Extent,
     n: usize,
     s: &[u8],
-    at: usize,
+    from: Cursor,
     o: Order,
     left: usize,
 ) -> usize
     requires { ⌜ RowStands (now d) k start left ⌝ }
     requires { ⌜ Ahead before start × Definite (joint before (extentAll (typesAt (now d) k start))) ⌝ }
-    requires { ⌜ Roomy (now s) whole at n ⌝ }
-    ensures { λ r. ⌜ (r ≤ n) × EachKeptAll (orderOf o) (now (s .entry)) (typesAt (now (d .entry)) k start) before whole at r ⌝ }
+    requires { ⌜ Roomy (now s) whole (from .at) n ⌝ }
+    ensures { λ r. ⌜ (r ≤ n) × EachKeptAll (orderOf o) (now (s .entry)) (typesAt (now (d .entry)) k start) before whole (from .at) r ⌝ }
 {
     let mut p = start;
     let mut front = before;
     let mut count = n;
     let mut i = 0;
     while i < k {
-        count = columns_of(d, p, front, whole, count, s, at, o, left);
+        count = columns_of(d, p, front, whole, count, s, from, o, left);
         if count == 0 {
             return 0;
         }
@@ -280,17 +289,17 @@ pub fn keeping(
     judged: bool,
     n: usize,
     s: &[u8],
-    at: usize,
+    from: Cursor,
     o: Order,
     left: usize,
 ) -> usize
     requires { ⌜ TypeStands (now d) p left ⌝ }
     requires { ⌜ (whole ≡ extentOf (typeAt (now d) p)) × Definite whole × (judged ≡ judgedIn whole) ⌝ }
-    requires { ⌜ Roomy (now s) whole at n ⌝ }
-    ensures { λ r. ⌜ (r ≤ n) × EachKeptHere (orderOf o) (now (s .entry)) (typeAt (now (d .entry)) p) whole at r ⌝ }
+    requires { ⌜ Roomy (now s) whole (from .at) n ⌝ }
+    ensures { λ r. ⌜ (r ≤ n) × EachKeptHere (orderOf o) (now (s .entry)) (typeAt (now (d .entry)) p) whole (from .at) r ⌝ }
 {
     if judged {
-        return columns_of(d, p, Extent::Fixed(0, 0, false), whole, n, s, at, o, left);
+        return columns_of(d, p, Extent::Fixed(0, 0, false), whole, n, s, from, o, left);
     }
     n
 }

@@ -2,10 +2,11 @@
 use super::order::Order;
 use super::order::number_4;
 ghost use mathlib.Core.Path.{_≡_};
-ghost use Prim.Native.Nat.{_≤_};
+ghost use Prim.Native.Nat.{_+_, _^_, _≤_, _<_};
 ghost use lib.ListN.{length};
+ghost use Rattle.flattened.specs.Order.{numberAt};
 ghost use Rattle.flattened.specs.inner.Order.{orderOf};
-ghost use Rattle.flattened.specs.inner.Cursor.{skipped, wordAt};
+ghost use Rattle.flattened.specs.inner.Cursor.{cursor, skipped, wordAt};
 
 // Where the next token starts: "Each piece starts exactly where the one before it ended".
 pub struct Cursor {
@@ -25,27 +26,41 @@ pub enum Word {
 }
 
 impl Cursor {
-    // Past n bytes.
+    // Past n bytes that are known to be there.
+    pub fn past(self, n: usize) -> Cursor
+        requires { ⌜ self .at + n < 2 ^ 64 ⌝ }
+        ensures { λ r. ⌜ r ≡ cursor (self .at + n) ⌝ }
+    {
+        Cursor { at: self.at + n }
+    }
+
+    // The four bytes here, which are known to be there, as a number.
+    pub fn number(self, s: &[u8], o: Order) -> usize
+        requires { ⌜ self .at + 4 ≤ length (now s) ⌝ }
+        ensures { λ r. ⌜ r ≡ numberAt (orderOf o) (now (s .entry)) (self .at) 4 ⌝ }
+    {
+        number_4(s, self.at, o) as usize
+    }
+
+    // Past n bytes, where they are there.
     pub fn skip(self, s: &[u8], n: usize) -> Skip
         requires { ⌜ self .at ≤ length (now s) ⌝ }
         ensures { λ r. ⌜ r ≡ skipped (now (s .entry)) (self .at) n ⌝ }
     {
-        let at = self.at;
-        if s.len() - at < n {
+        if s.len() - self.at < n {
             return Skip::Cut;
         }
-        Skip::To(Cursor { at: at + n })
+        Skip::To(self.past(n))
     }
 
-    // The four bytes here as a number.
+    // The four bytes here as a number, where they are there.
     pub fn word(self, s: &[u8], o: Order) -> Word
         requires { ⌜ self .at ≤ length (now s) ⌝ }
         ensures { λ r. ⌜ r ≡ wordAt (orderOf o) (now (s .entry)) (self .at) ⌝ }
     {
-        let at = self.at;
         let Skip::To(next) = self.skip(s, 4) else {
             return Word::Cut;
         };
-        Word::Read(number_4(s, at, o) as usize, next)
+        Word::Read(self.number(s, o), next)
     }
 }

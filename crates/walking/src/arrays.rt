@@ -124,24 +124,24 @@ fn pass_around(
     tokens: usize,
     n: usize,
     s: &[u8],
-    at: usize,
+    from: Cursor,
     o: Order,
 ) -> Passed
     requires { ⌜ tokens ≤ before + 4 + after ⌝ }
-    requires { ⌜ DataAt (now s) at ⌝ }
-    ensures { λ r. ⌜ PassesAround (orderOf o) before after tokens (now (s .entry)) n at r ⌝ }
+    requires { ⌜ DataAt (now s) (from .at) ⌝ }
+    ensures { λ r. ⌜ PassesAround (orderOf o) before after tokens (now (s .entry)) n (from .at) r ⌝ }
 {
-    let mut next = Cursor { at };
+    let mut next = from;
     let mut count = 0;
     while count < n {
         let r = across(before, after, s, next, o);
         let Skip::To(end) = r else {
-            return many(count, next.at - at, tokens);
+            return many(count, next.at - from.at, tokens);
         };
         next = end;
         count += 1;
     }
-    many(count, next.at - at, tokens)
+    many(count, next.at - from.at, tokens)
 }
 
 // How many of the first of n elements of the type at p, of the extent x, are passed in one step: those that fit, up to one that is refused.
@@ -151,25 +151,25 @@ fn pass_extent(
     x: Extent,
     n: usize,
     s: &[u8],
-    at: usize,
+    from: Cursor,
     o: Order,
     left: usize,
 ) -> Passed
     requires { ⌜ TypeStands (now d) p left ⌝ }
     requires { ⌜ x ≡ extentOf (typeAt (now d) p) ⌝ }
-    requires { ⌜ DataAt (now s) at ⌝ }
-    ensures { λ r. ⌜ Passes (orderOf o) (typeAt (now (d .entry)) p) (now (s .entry)) n at r ⌝ }
+    requires { ⌜ DataAt (now s) (from .at) ⌝ }
+    ensures { λ r. ⌜ Passes (orderOf o) (typeAt (now (d .entry)) p) (now (s .entry)) n (from .at) r ⌝ }
 {
     match x {
         Extent::Varies => none_passed(),
         Extent::Fixed(w, tokens, judged) => {
-            let fit = fitting(n, w, s.len() - at);
-            let most = keeping(d, p, x, judged, fit, s, at, o, left);
-            pass_fixed(w, tokens, most, s, at)
+            let fit = fitting(n, w, s.len() - from.at);
+            let most = keeping(d, p, x, judged, fit, s, from, o, left);
+            pass_fixed(w, tokens, most, s, from.at)
         }
         Extent::Around(before, after, tokens, judged) => {
-            let most = keeping(d, p, x, judged, n, s, at, o, left);
-            pass_around(before, after, tokens, most, s, at, o)
+            let most = keeping(d, p, x, judged, n, s, from, o, left);
+            pass_around(before, after, tokens, most, s, from, o)
         }
     }
 }
@@ -195,21 +195,21 @@ fn pass_stretches(
     first: usize,
     n: usize,
     s: &[u8],
-    at: usize,
+    from: Cursor,
     o: Order,
     left: usize,
 ) -> Passed
     requires { ⌜ TypeStands (now d) p left ⌝ }
     requires { ⌜ x ≡ extentOf (typeAt (now d) p) ⌝ }
     requires { ⌜ 0 < first ⌝ }
-    requires { ⌜ DataAt (now s) at ⌝ }
-    ensures { λ r. ⌜ Passes (orderOf o) (typeAt (now (d .entry)) p) (now (s .entry)) n at r ⌝ }
+    requires { ⌜ DataAt (now s) (from .at) ⌝ }
+    ensures { λ r. ⌜ Passes (orderOf o) (typeAt (now (d .entry)) p) (now (s .entry)) n (from .at) r ⌝ }
 {
     let mut passed = none_passed();
     let mut stretch = first;
     while passed.count < n {
         let span = shorter(stretch, n - passed.count);
-        let more = pass_extent(d, p, x, span, s, at + passed.bytes, o, left);
+        let more = pass_extent(d, p, x, span, s, from.past(passed.bytes), o, left);
         passed = together(passed, more);
         if more.count < span {
             return passed;
@@ -230,26 +230,24 @@ fn judged_in(x: Extent) -> bool {
 
 // How many of the first of n elements of the type at p are passed in one step, by their extent; where none is judged, as one stretch of
 // all that an array can have.
-fn pass(d: &[u8], p: usize, n: usize, s: &[u8], at: usize, o: Order, left: usize) -> Passed
+fn pass(d: &[u8], p: usize, n: usize, s: &[u8], from: Cursor, o: Order, left: usize) -> Passed
     requires { ⌜ TypeStands (now d) p left ⌝ }
-    requires { ⌜ DataAt (now s) at ⌝ }
-    ensures { λ r. ⌜ Passes (orderOf o) (typeAt (now (d .entry)) p) (now (s .entry)) n at r ⌝ }
+    requires { ⌜ DataAt (now s) (from .at) ⌝ }
+    ensures { λ r. ⌜ Passes (orderOf o) (typeAt (now (d .entry)) p) (now (s .entry)) n (from .at) r ⌝ }
 {
     let x = extent_of(d, p, left);
     if judged_in(x) {
-        return pass_stretches(d, p, x, 64, n, s, at, o, left);
+        return pass_stretches(d, p, x, 64, n, s, from, o, left);
     }
-    pass_stretches(d, p, x, 4294967296, n, s, at, o, left)
+    pass_stretches(d, p, x, 4294967296, n, s, from, o, left)
 }
 
-// What is left of n elements from `start` on, after those passed and the token of the sizes.
-fn left_after(n: usize, start: usize, passed: Passed) -> Front
-    requires { ⌜ (passed .count ≤ n) × (start + passed .bytes ≤ dataLimit) × (passed .tokens ≤ dataLimit) ⌝ }
-    ensures { λ r. ⌜ LeftAfter n start passed r ⌝ }
+// What is left of n elements, after those passed and the token of the sizes.
+fn left_after(n: usize, elements: Cursor, passed: Passed) -> Front
+    requires { ⌜ (passed .count ≤ n) × (elements .at + passed .bytes ≤ dataLimit) × (passed .tokens ≤ dataLimit) ⌝ }
+    ensures { λ r. ⌜ LeftAfter n (elements .at) passed r ⌝ }
 {
-    let next = Cursor {
-        at: start + passed.bytes,
-    };
+    let next = elements.past(passed.bytes);
     if passed.count == n {
         return Front::Over(Progress::Walked(next, 1 + passed.tokens));
     }
@@ -277,9 +275,8 @@ pub fn scalar_front(
     match sizes {
         Sizes::Refused(number, place) => Front::Over(Progress::Refused(number, place)),
         Sizes::Count(n, elements) => {
-            let start = elements.at;
-            let passed = pass_scalars(d, p, w, n, s, start, o);
-            left_after(n, start, passed)
+            let passed = pass_scalars(d, p, w, n, s, elements.at, o);
+            left_after(n, elements, passed)
         }
     }
 }
@@ -303,9 +300,8 @@ pub fn array_front(
     match sizes {
         Sizes::Refused(number, place) => Front::Over(Progress::Refused(number, place)),
         Sizes::Count(n, elements) => {
-            let start = elements.at;
-            let passed = pass(d, p, n, s, start, o, left);
-            left_after(n, start, passed)
+            let passed = pass(d, p, n, s, elements, o, left);
+            left_after(n, elements, passed)
         }
     }
 }

@@ -113,16 +113,16 @@ columns-of-returns-3 t c =
     (omega arith, λ i l. kept-other (orderOf (a .o)) (now (a .s)) _ (now (a .d)) (a .p) (b .pre .1 .0 .here) (omega (arith, c .before .before .if1 .left, wide)) simple)
 
 abbrev columns-row-Inv-loop : columns-row-lts.InvT-loop
-columns-row-Inv-loop d start k whole n s at o left p₀ front₀ count₀ i₀ p front count i = RowLoop d k start left front₀ (orderOf o) s whole at n p front count i
+columns-row-Inv-loop d start k whole n s from o left p₀ front₀ count₀ i₀ p front count i = RowLoop d k start left front₀ (orderOf o) s whole (from .at) n p front count i
 
 abbrev columns-row-μ-loop : columns-row-lts.MeasureT-loop
-columns-row-μ-loop d start k whole n s at o left p₀ front₀ count₀ i₀ p front count i = k - i
+columns-row-μ-loop d start k whole n s from o left p₀ front₀ count₀ i₀ p front count i = k - i
 
 abbrev columns-row-calls : ℕ → columns-row-lts.Claims
 columns-row-calls t = (columns-of-below t, columns-of.Post, extent-of-reads.Asked, extent-of-reads.Learnt, joint-reads.Asked, joint-reads.Learnt, size-at-reads.Asked, size-at-reads.Learnt)
 
 columns-row-loop-holds : (t : ℕ) → columns-row-lts.Need-loop-holds (columns-row-calls t) (columns-row-at t) columns-row.Post columns-row-Inv-loop columns-row-μ-loop
-columns-row-loop-holds t c = let a = c .before .before .args in let pre = c .before .before .pre in row-begin (now (a .d)) (a .k) (a .start) (a .left) (a .before) (orderOf (a .o)) (now (a .s)) (a .whole) (a .at) (a .n) (pre .1 .0) (pre .1 .1 .0 .0) (pre .1 .1 .0 .1)
+columns-row-loop-holds t c = let a = c .before .before .args in let pre = c .before .before .pre in row-begin (now (a .d)) (a .k) (a .start) (a .left) (a .before) (orderOf (a .o)) (now (a .s)) (a .whole) (a .from .at) (a .n) (pre .1 .0) (pre .1 .1 .0 .0) (pre .1 .1 .0 .1)
 
 columns-row-columns-of-requires : (t : ℕ) → columns-row-lts.Need-columns-of-requires (columns-row-calls t) (columns-row-at t) columns-row.Post columns-row-Inv-loop columns-row-μ-loop
 columns-row-columns-of-requires t c κs =
@@ -131,10 +131,10 @@ columns-row-columns-of-requires t c κs =
     let pre = c .before .before .before .before .pre in (
       omega (arith, pre .0),
       (
-        next-turn (now (a .d)) (a .k) (a .start) (a .left) (a .before) (orderOf (a .o)) (now (a .s)) (a .whole) (a .at) (a .n) (l .p) (l .front) (l .count) (l .i) (l .inv) (c .loop-test .taken) .first,
+        next-turn (now (a .d)) (a .k) (a .start) (a .left) (a .before) (orderOf (a .o)) (now (a .s)) (a .whole) (a .from .at) (a .n) (l .p) (l .front) (l .count) (l .i) (l .inv) (c .loop-test .taken) .first,
         (
-          (l .inv .ahead, here-definite (now (a .d)) (a .k) (a .start) (a .left) (a .before) (orderOf (a .o)) (now (a .s)) (a .whole) (a .at) (a .n) (l .p) (l .front) (l .count) (l .i) (l .inv) (c .loop-test .taken)),
-          roomy-fewer (now (a .s)) (a .whole) (a .at) (l .count) (a .n) (l .inv .fewer) (pre .1 .1 .1),
+          (l .inv .ahead, here-definite (now (a .d)) (a .k) (a .start) (a .left) (a .before) (orderOf (a .o)) (now (a .s)) (a .whole) (a .from .at) (a .n) (l .p) (l .front) (l .count) (l .i) (l .inv) (c .loop-test .taken)),
+          roomy-fewer (now (a .s)) (a .whole) (a .from .at) (l .count) (a .n) (l .inv .fewer) (pre .1 .1 .1),
         ),
       ),
     )
@@ -146,14 +146,14 @@ columns-row-extent-of-requires : (t : ℕ) → columns-row-lts.Need-extent-of-re
 columns-row-extent-of-requires t c κs =
     let a = c .before .before .before .before .before .before .args in
     let l = c .before .before .before .loop in
-    next-turn (now (a .d)) (a .k) (a .start) (a .left) (a .before) (orderOf (a .o)) (now (a .s)) (a .whole) (a .at) (a .n) (l .p) (l .front) (l .count) (l .i) (l .inv) (c .before .before .loop-test .taken) .first
+    next-turn (now (a .d)) (a .k) (a .start) (a .left) (a .before) (orderOf (a .o)) (now (a .s)) (a .whole) (a .from .at) (a .n) (l .p) (l .front) (l .count) (l .i) (l .inv) (c .before .before .loop-test .taken) .first
 
 columns-row-joint-requires : (t : ℕ) → columns-row-lts.Need-joint-requires (columns-row-calls t) (columns-row-at t) columns-row.Post columns-row-Inv-loop columns-row-μ-loop
 columns-row-joint-requires t c κs =
     let a = c .before .before .before .before .before .before .before .args in
     let l = c .before .before .before .before .loop in
-    let turn = next-turn (now (a .d)) (a .k) (a .start) (a .left) (a .before) (orderOf (a .o)) (now (a .s)) (a .whole) (a .at) (a .n) (l .p) (l .front) (l .count) (l .i) (l .inv) (c .before .before .before .loop-test .taken) in
-    let next = next-least (now (a .d)) (a .k) (a .start) (a .left) (a .before) (orderOf (a .o)) (now (a .s)) (a .whole) (a .at) (a .n) (l .p) (l .front) (l .count) (l .i) (l .inv) (c .before .before .before .loop-test .taken) in
+    let turn = next-turn (now (a .d)) (a .k) (a .start) (a .left) (a .before) (orderOf (a .o)) (now (a .s)) (a .whole) (a .from .at) (a .n) (l .p) (l .front) (l .count) (l .i) (l .inv) (c .before .before .before .loop-test .taken) in
+    let next = next-least (now (a .d)) (a .k) (a .start) (a .left) (a .before) (orderOf (a .o)) (now (a .s)) (a .whole) (a .from .at) (a .n) (l .p) (l .front) (l .count) (l .i) (l .inv) (c .before .before .before .loop-test .taken) in
     rw (c .extent-of .ensures)
     (omega (arith, l .inv .ahead .bytes, next .0, turn .within, turn .rest .small), omega (arith, l .inv .ahead .tokens, next .1, turn .within, turn .rest .small))
 
@@ -161,13 +161,13 @@ columns-row-size-at-requires : (t : ℕ) → columns-row-lts.Need-size-at-requir
 columns-row-size-at-requires t c κs =
     let a = c .before .before .before .before .before .before .before .before .args in
     let l = c .before .before .before .before .before .loop in
-    header-room (now (a .d)) (l .p) (next-turn (now (a .d)) (a .k) (a .start) (a .left) (a .before) (orderOf (a .o)) (now (a .s)) (a .whole) (a .at) (a .n) (l .p) (l .front) (l .count) (l .i) (l .inv) (c .before .before .before .before .loop-test .taken) .first .here)
+    header-room (now (a .d)) (l .p) (next-turn (now (a .d)) (a .k) (a .start) (a .left) (a .before) (orderOf (a .o)) (now (a .s)) (a .whole) (a .from .at) (a .n) (l .p) (l .front) (l .count) (l .i) (l .inv) (c .before .before .before .before .loop-test .taken) .first .here)
 
 columns-row-add-p : (t : ℕ) → columns-row-lts.Need-add-p (columns-row-calls t) (columns-row-at t) columns-row.Post columns-row-Inv-loop columns-row-μ-loop
 columns-row-add-p t c =
     let a = c .before .before .before .before .before .before .before .before .before .args in
     let l = c .before .before .before .before .before .before .loop in
-    let turn = next-turn (now (a .d)) (a .k) (a .start) (a .left) (a .before) (orderOf (a .o)) (now (a .s)) (a .whole) (a .at) (a .n) (l .p) (l .front) (l .count) (l .i) (l .inv) (c .before .before .before .before .before .loop-test .taken) in
+    let turn = next-turn (now (a .d)) (a .k) (a .start) (a .left) (a .before) (orderOf (a .o)) (now (a .s)) (a .whole) (a .from .at) (a .n) (l .p) (l .front) (l .count) (l .i) (l .inv) (c .before .before .before .before .before .loop-test .taken) in
     omega (arith, c .size-at .ensures .eq, turn .within, turn .rest .small)
 
 columns-row-add-i : (t : ℕ) → columns-row-lts.Need-add-i (columns-row-calls t) (columns-row-at t) columns-row.Post columns-row-Inv-loop columns-row-μ-loop
@@ -182,13 +182,13 @@ columns-row-loop-again t c =
     let l = c .before .before .before .before .before .before .loop in
     let kept = c .before .before .before .before .columns-of in
     rw (c .size-at .ensures .eq, c .before .joint .ensures, c .before .before .extent-of .ensures)
-    (row-next (now (a .d)) (a .k) (a .start) (a .left) (a .before) (orderOf (a .o)) (now (a .s)) (a .whole) (a .at) (a .n) (l .p) (l .front) (l .count) (l .i) (l .inv) (c .before .before .before .before .before .loop-test .taken) (kept .result) (kept .ensures .0) (kept .ensures .1))
+    (row-next (now (a .d)) (a .k) (a .start) (a .left) (a .before) (orderOf (a .o)) (now (a .s)) (a .whole) (a .from .at) (a .n) (l .p) (l .front) (l .count) (l .i) (l .inv) (c .before .before .before .before .before .loop-test .taken) (kept .result) (kept .ensures .0) (kept .ensures .1))
 
 columns-row-returns-2 : (t : ℕ) → columns-row-lts.Need-returns-2 (columns-row-calls t) (columns-row-at t) columns-row.Post columns-row-Inv-loop columns-row-μ-loop
 columns-row-returns-2 t c =
     let a = c .before .before .before .before .args in
     let l = c .before .loop in
-    row-kept (now (a .d)) (a .k) (a .start) (a .left) (a .before) (orderOf (a .o)) (now (a .s)) (a .whole) (a .at) (a .n) (l .p) (l .front) (l .count) (l .i) (l .inv) (c .loop-test .left)
+    row-kept (now (a .d)) (a .k) (a .start) (a .left) (a .before) (orderOf (a .o)) (now (a .s)) (a .whole) (a .from .at) (a .n) (l .p) (l .front) (l .count) (l .i) (l .inv) (c .loop-test .left)
 
 pub +columns-of+columns-row-spec : {M : Type 1} → statement M
 +columns-of+columns-row-spec = close μ-columns-of μ-columns-row (λ t. columns-of-lts.spec (columns-of-calls t)

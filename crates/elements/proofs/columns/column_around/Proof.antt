@@ -13,10 +13,10 @@ use Rattle.elements.proofs.columns.column_around.Statement.{statement}
 use Rattle.elements.proofs.columns.column_around.Tie as tie
 
 abbrev Inv-loop : tie.InvT-loop
-Inv-loop front before after w limit n s at o next₀ count₀ next count = ColumnLoop (orderOf o) s front before after at w limit n (next .at) count
+Inv-loop front before after w limit n s o next₀ count₀ next count = ColumnLoop (orderOf o) s front before after (next₀ .at) w limit n (next .at) count
 
 abbrev μ-loop : tie.MeasureT-loop
-μ-loop front before after w limit n s at o next₀ count₀ next count = n - count
+μ-loop front before after w limit n s o next₀ count₀ next count = n - count
 
 beside-requires : tie.Need-beside-requires Inv-loop μ-loop
 beside-requires c κs = search needs
@@ -27,7 +27,7 @@ returns c = (omega arith, λ k j i l. absurd (omega arith))
 loop-holds : tie.Need-loop-holds Inv-loop μ-loop
 loop-holds c =
     let a = c .before .before .before .args in
-    column-begin (orderOf (a .o)) (now (a .s)) (a .front) (a .before) (a .after) (a .at) (a .w) (a .limit) (a .n) (c .before .before .before .pre .1)
+    column-begin (orderOf (a .o)) (now (a .s)) (a .front) (a .before) (a .after) (a .from .at) (a .w) (a .limit) (a .n) (c .before .before .before .pre .1)
 
 across-requires : tie.Need-across-requires Inv-loop μ-loop
 across-requires c κs = c .before .loop .inv .inside
@@ -69,7 +69,7 @@ loop-again c =
     let a = c .before .before .before .before .before .before .before .before .before .before .before .before .args in
     let l = c .before .before .before .before .before .before .before .before .loop in
     let few = subst (λ (v : ℕ). v < a .limit) (c .before .narrow-number .ensures) (omega (arith, c .if2 .left)) in
-    column-next (orderOf (a .o)) (now (a .s)) (a .front) (a .before) (a .after) (a .at) (a .w) (a .limit) (a .n) (l .next .at) (l .count) (l .inv) (c .before .before .before .before .before .before .before .loop-test .taken) _
+    column-next (orderOf (a .o)) (now (a .s)) (a .front) (a .before) (a .after) (a .from .at) (a .w) (a .limit) (a .n) (l .next .at) (l .count) (l .inv) (c .before .before .before .before .before .before .before .loop-test .taken) _
     (subst (λ (x : Skip). Across (orderOf (a .o)) (now (a .s)) (a .before) (a .after) (c .before .before .before .before .before .before .before .before .loop .next .at) x) (c .before .before .before .before .element .given .1) (c .before .before .before .before .before .before .across .ensures)) _ (c .before .before .place-in .ensures) few
 
 returns-4 : tie.Need-returns-4 Inv-loop μ-loop

@@ -19,7 +19,7 @@ returns : tie.Need-returns
 returns c =
     let a = c .before .before .before .before .args in
     let kept = c .columns-of .ensures in
-    (kept .0, here-kept (orderOf (a .o)) (now (a .s)) (typeAt (now (a .d)) (a .p)) (a .whole) (a .at) (c .columns-of .result) (kept .1))
+    (kept .0, here-kept (orderOf (a .o)) (now (a .s)) (typeAt (now (a .d)) (a .p)) (a .whole) (a .from .at) (c .columns-of .result) (kept .1))
 
 returns-2 : tie.Need-returns-2
 returns-2 c =

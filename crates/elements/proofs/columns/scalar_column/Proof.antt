@@ -29,13 +29,13 @@ returns : tie.Need-returns
 returns c =
     let a = c .before .before .before .before .before .args in
     let pre = c .before .before .before .before .before .pre in
-    (omega arith, each-any (orderOf (a .o)) (now (a .s)) (a .front) (a .whole) (a .at) (a .n) (now (a .d)) (a .p) (pre .0) (omega (arith, pre .1 .0 .0, pre .1 .0 .1)) (sym (c .enum-told .given .1) ∙ c .before .before .rule-of .ensures))
+    (omega arith, each-any (orderOf (a .o)) (now (a .s)) (a .front) (a .whole) (a .from .at) (a .n) (now (a .d)) (a .p) (pre .0) (omega (arith, pre .1 .0 .0, pre .1 .0 .1)) (sym (c .enum-told .given .1) ∙ c .before .before .rule-of .ensures))
 
 returns-2 : tie.Need-returns-2
 returns-2 c =
     let a = c .before .before .before .before .before .before .before .args in
     let pre = c .before .before .before .before .before .before .before .pre in
-    (c .column .ensures .0, each-below (orderOf (a .o)) (now (a .s)) (a .front) (a .whole) (a .at) (c .column .result) (now (a .d)) (a .p) (pre .0) (omega (arith, pre .1 .0 .0, pre .1 .0 .1)) _ (a .w) (sym (c .before .before .rule .given .1) ∙ c .before .before .before .before .rule-of .ensures) (pre .1 .0 .0) (c .column .ensures .1))
+    (c .column .ensures .0, each-below (orderOf (a .o)) (now (a .s)) (a .front) (a .whole) (a .from .at) (c .column .result) (now (a .d)) (a .p) (pre .0) (omega (arith, pre .1 .0 .0, pre .1 .0 .1)) _ (a .w) (sym (c .before .before .rule .given .1) ∙ c .before .before .before .before .rule-of .ensures) (pre .1 .0 .0) (c .column .ensures .1))
 
 pub scalar-column-spec : {M : Type 1} → statement M
 scalar-column-spec =

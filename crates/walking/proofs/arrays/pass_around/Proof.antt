@@ -12,15 +12,15 @@ use Rattle.walking.proofs.arrays.pass_around.Statement.{statement}
 use Rattle.walking.proofs.arrays.pass_around.Tie as tie
 
 abbrev Inv-loop : tie.InvT-loop
-Inv-loop before after tokens n s at o next₀ count₀ next count = AroundLoop (orderOf o) s before after tokens n at (next .at) count
+Inv-loop before after tokens n s from o next₀ count₀ next count = AroundLoop (orderOf o) s before after tokens n (from .at) (next .at) count
 
 abbrev μ-loop : tie.MeasureT-loop
-μ-loop before after tokens n s at o next₀ count₀ next count = n - count
+μ-loop before after tokens n s from o next₀ count₀ next count = n - count
 
 loop-holds : tie.Need-loop-holds Inv-loop μ-loop
 loop-holds c =
     let a = c .before .args in
-    around-begin (orderOf (a .o)) (now (a .s)) (a .before) (a .after) (a .tokens) (a .n) (a .at) (c .before .pre .1 .inside)
+    around-begin (orderOf (a .o)) (now (a .s)) (a .before) (a .after) (a .tokens) (a .n) (a .from .at) (c .before .pre .1 .inside)
 
 across-requires : tie.Need-across-requires Inv-loop μ-loop
 across-requires c κs = c .before .loop .inv .inside
@@ -32,16 +32,16 @@ enum-told : tie.Need-enum-told Inv-loop μ-loop
 enum-told c = search needs
 
 sub-many : tie.Need-sub-many Inv-loop μ-loop
-sub-many c = omega (arith, c .before .before .before .before .before .loop .inv .few)
+sub-many c = omega (arith, c .before .before .before .before .before .before .loop .inv .few)
 
 many-requires : tie.Need-many-requires Inv-loop μ-loop
-many-requires c κs = let l = c .before .before .before .before .before .loop in omega (arith, l .inv .few, l .inv .inside, c .before .before .before .before .before .before .before .pre .1 .short)
+many-requires c κs = let l = c .before .before .before .before .before .before .loop in omega (arith, l .inv .few, l .inv .inside, c .before .before .before .before .before .before .before .before .pre .1 .short)
 
 returns : tie.Need-returns Inv-loop μ-loop
 returns c =
-    let a = c .before .before .before .before .before .before .before .before .args in
-    let l = c .before .before .before .before .before .before .loop in
-    around-passes (orderOf (a .o)) (now (a .s)) (a .before) (a .after) (a .tokens) (a .n) (a .at) (l .next .at) (l .count) (l .inv) _ (c .many .ensures)
+    let a = c .before .before .before .before .before .before .before .before .before .args in
+    let l = c .before .before .before .before .before .before .before .loop in
+    around-passes (orderOf (a .o)) (now (a .s)) (a .before) (a .after) (a .tokens) (a .n) (a .from .at) (l .next .at) (l .count) (l .inv) _ (c .many .ensures)
 
 add-count : tie.Need-add-count Inv-loop μ-loop
 add-count c = search needs
@@ -53,20 +53,20 @@ loop-again : tie.Need-loop-again Inv-loop μ-loop
 loop-again c =
     let a = c .before .before .before .before .before .before .before .args in
     let l = c .before .before .before .before .before .loop in
-    around-next (orderOf (a .o)) (now (a .s)) (a .before) (a .after) (a .tokens) (a .n) (a .at) (l .next .at) (l .count) (l .inv) (c .before .before .before .before .before .before .before .pre .1 .short) (c .before .before .before .before .before .before .before .pre .0) (c .before .before .before .before .loop-test .taken) _
+    around-next (orderOf (a .o)) (now (a .s)) (a .before) (a .after) (a .tokens) (a .n) (a .from .at) (l .next .at) (l .count) (l .inv) (c .before .before .before .before .before .before .before .pre .1 .short) (c .before .before .before .before .before .before .before .pre .0) (c .before .before .before .before .loop-test .taken) _
     (subst (λ (x : Skip). Across (orderOf (a .o)) (now (a .s)) (a .before) (a .after) (l .next .at) x) (c .before .r .given .1) (c .before .before .before .across .ensures))
 
 sub-many-2 : tie.Need-sub-many-2 Inv-loop μ-loop
-sub-many-2 c = omega (arith, c .before .before .loop .inv .few)
+sub-many-2 c = omega (arith, c .before .before .before .loop .inv .few)
 
 many-requires-2 : tie.Need-many-requires-2 Inv-loop μ-loop
-many-requires-2 c κs = let l = c .before .before .loop in omega (arith, l .inv .few, l .inv .inside, c .before .before .before .before .pre .1 .short)
+many-requires-2 c κs = let l = c .before .before .before .loop in omega (arith, l .inv .few, l .inv .inside, c .before .before .before .before .before .pre .1 .short)
 
 returns-2 : tie.Need-returns-2 Inv-loop μ-loop
 returns-2 c =
-    let a = c .before .before .before .before .before .args in
-    let l = c .before .before .before .loop in
-    around-passes (orderOf (a .o)) (now (a .s)) (a .before) (a .after) (a .tokens) (a .n) (a .at) (l .next .at) (l .count) (l .inv) _ (c .many2 .ensures)
+    let a = c .before .before .before .before .before .before .args in
+    let l = c .before .before .before .before .loop in
+    around-passes (orderOf (a .o)) (now (a .s)) (a .before) (a .after) (a .tokens) (a .n) (a .from .at) (l .next .at) (l .count) (l .inv) _ (c .many2 .ensures)
 
 pub pass-around-spec : {M : Type 1} → statement M
 pass-around-spec =

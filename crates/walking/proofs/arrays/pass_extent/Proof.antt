@@ -32,26 +32,26 @@ sub-fitting c = search needs
 fitting-requires : tie.Need-fitting-requires
 unfolding Small
 fitting-requires c κs =
-    let a = c .before .before .before .before .before .args in
-    let type = c .before .before .before .before .before .pre .0 in
-    let few = subst (λ (x : Extent). Small 1 x (treeSize (typeAt (now (a .d)) (a .p)))) (sym (c .before .before .before .before .before .pre .1 .0) ∙ c .before .x .given .1) (type-few (now (a .d)) (a .p) (a .left) (c .before .before .before .before .before .pre .0)) in
-    (omega (arith, few .tokens, few .many), omega (arith, few .bytes, type-size (now (a .d)) (a .p) (a .left) type, type .here .small), omega (arith, c .before .before .before .before .before .pre .1 .1 .short))
+    let a = c .before .before .before .before .before .before .args in
+    let type = c .before .before .before .before .before .before .pre .0 in
+    let few = subst (λ (x : Extent). Small 1 x (treeSize (typeAt (now (a .d)) (a .p)))) (sym (c .before .before .before .before .before .before .pre .1 .0) ∙ c .before .before .x .given .1) (type-few (now (a .d)) (a .p) (a .left) (c .before .before .before .before .before .before .pre .0)) in
+    (omega (arith, few .tokens, few .many), omega (arith, few .bytes, type-size (now (a .d)) (a .p) (a .left) type, type .here .small), omega (arith, c .before .before .before .before .before .before .pre .1 .1 .short))
 
 keeping-requires : tie.Need-keeping-requires
 unfolding Definite judgedIn Roomy
 keeping-requires c κs =
-    let a = c .before .before .before .before .before .before .args in
-    let pre = c .before .before .before .before .before .before .pre in
-    let known = c .before .before .x .given .1 in
-    (pre .0, ((sym known ∙ pre .1 .0, tt, refl), fitting-fewer (a .n) _ (length (now (a .s))) (a .at) (c .fitting .result) (c .fitting .result) (c .fitting .ensures) (pre .1 .1 .inside) (omega arith)))
+    let a = c .before .before .before .before .before .before .before .args in
+    let pre = c .before .before .before .before .before .before .before .pre in
+    let known = c .before .before .before .x .given .1 in
+    (pre .0, ((sym known ∙ pre .1 .0, tt, refl), fitting-fewer (a .n) _ (length (now (a .s))) (a .from .at) (c .fitting .result) (c .fitting .result) (c .fitting .ensures) (pre .1 .1 .inside) (omega arith)))
 
 pass-fixed-requires : tie.Need-pass-fixed-requires
 unfolding Small
 pass-fixed-requires c κs =
-    let a = c .before .before .before .before .before .before .before .args in
-    let pre = c .before .before .before .before .before .before .before .pre in
-    let few = subst (λ (x : Extent). Small 1 x (treeSize (typeAt (now (a .d)) (a .p)))) (sym (c .before .before .before .before .before .before .before .pre .1 .0) ∙ c .before .before .before .x .given .1) (type-few (now (a .d)) (a .p) (a .left) (c .before .before .before .before .before .before .before .pre .0)) in
-    (few .tokens, fitting-fewer (a .n) _ (length (now (a .s))) (a .at) (c .before .fitting .result) (c .keeping .result) (c .before .fitting .ensures) (pre .1 .1 .inside) (c .keeping .ensures .0))
+    let a = c .before .before .before .before .before .before .before .before .args in
+    let pre = c .before .before .before .before .before .before .before .before .pre in
+    let few = subst (λ (x : Extent). Small 1 x (treeSize (typeAt (now (a .d)) (a .p)))) (sym (c .before .before .before .before .before .before .before .before .pre .1 .0) ∙ c .before .before .before .before .x .given .1) (type-few (now (a .d)) (a .p) (a .left) (c .before .before .before .before .before .before .before .before .pre .0)) in
+    (few .tokens, fitting-fewer (a .n) _ (length (now (a .s))) (a .from .at) (c .before .fitting .result) (c .keeping .result) (c .before .fitting .ensures) (pre .1 .1 .inside) (c .keeping .ensures .0))
 
 enum-known-x-2 : tie.Need-enum-known-x-2
 enum-known-x-2 c = search needs
@@ -71,24 +71,24 @@ pass-around-requires c κs =
     (few .tokens, c .before .before .before .before .before .before .pre .1 .1)
 
 returns : tie.Need-returns
-returns c = let a = c .before .before .before .before .before .args in pass-none (orderOf (a .o)) _ (now (a .s)) (a .n) (a .at) _ (c .none-passed .ensures)
+returns c = let a = c .before .before .before .before .before .args in pass-none (orderOf (a .o)) _ (now (a .s)) (a .n) (a .from .at) _ (c .none-passed .ensures)
 
 returns-2 : tie.Need-returns-2
 returns-2 c =
-    let a = c .before .before .before .before .before .before .before .before .args in
+    let a = c .before .before .before .before .before .before .before .before .before .args in
     let t = typeAt (now (a .d)) (a .p) in
     let kept = c .before .keeping .ensures in
     let fit = c .before .before .fitting in
-    let fits = fitting-most (a .n) _ (length (now (a .s)) - a .at) (fit .result) (fit .ensures) in
-    pass-more (orderOf (a .o)) t (now (a .s)) (c .before .keeping .result) (a .n) (a .at) _ (omega (arith, kept .0, fits))
-    (c .pass-fixed .ensures (orderOf (a .o)) _ t (sym (c .before .before .before .before .x .given .1) ∙ c .before .before .before .before .before .before .before .before .pre .1 .0) (kept .1))
+    let fits = fitting-most (a .n) _ (length (now (a .s)) - a .from .at) (fit .result) (fit .ensures) in
+    pass-more (orderOf (a .o)) t (now (a .s)) (c .before .keeping .result) (a .n) (a .from .at) _ (omega (arith, kept .0, fits))
+    (c .pass-fixed .ensures (orderOf (a .o)) _ t (sym (c .before .before .before .before .before .x .given .1) ∙ c .before .before .before .before .before .before .before .before .before .pre .1 .0) (kept .1))
 
 returns-3 : tie.Need-returns-3
 returns-3 c =
     let a = c .before .before .before .before .before .before .before .args in
     let t = typeAt (now (a .d)) (a .p) in
     let kept = c .before .keeping2 .ensures in
-    pass-more (orderOf (a .o)) t (now (a .s)) (c .before .keeping2 .result) (a .n) (a .at) _ (kept .0)
+    pass-more (orderOf (a .o)) t (now (a .s)) (c .before .keeping2 .result) (a .n) (a .from .at) _ (kept .0)
     (c .pass-around .ensures _ t (sym (c .before .before .before .x2 .given .1) ∙ c .before .before .before .before .before .before .before .pre .1 .0) (kept .1))
 
 pub pass-extent-spec : {M : Type 1} → statement M

@@ -7,6 +7,7 @@ use borrow.Author.Needs.{needs}
 use Rattle.flattened.specs.inner.Order.{orderOf}
 use Rattle.flattened.specs.inner.Types.{typeAt}
 use Rattle.flattened.proofs.Types.{type-solid}
+use Rattle.flattened.specs.declared.cursor.Cursor.{Cursor}
 use Rattle.walking.specs.inner.Fronts.{Passes}
 use Rattle.walking.specs.declared.arrays.Passed.{Passed}
 use Rattle.walking.proofs.Passing.{pass-none, passed-within, pass-next}
@@ -14,16 +15,16 @@ use Rattle.walking.proofs.arrays.pass_stretches.Statement.{statement}
 use Rattle.walking.proofs.arrays.pass_stretches.Tie as tie
 
 abbrev Inv-loop : tie.InvT-loop
-Inv-loop d p x first n s at o left passed₀ stretch₀ passed stretch = (0 < stretch) × Passes (orderOf o) (typeAt d p) s n at passed
+Inv-loop d p x first n s from o left passed₀ stretch₀ passed stretch = (0 < stretch) × Passes (orderOf o) (typeAt d p) s n (from .at) passed
 
 abbrev μ-loop : tie.MeasureT-loop
-μ-loop d p x first n s at o left passed₀ stretch₀ passed stretch = n - passed .count
+μ-loop d p x first n s from o left passed₀ stretch₀ passed stretch = n - passed .count
 
 none-passed-requires : tie.Need-none-passed-requires Inv-loop μ-loop
 none-passed-requires c κs = search needs
 
 loop-holds : tie.Need-loop-holds Inv-loop μ-loop
-loop-holds c = let a = c .before .before .before .args in (c .before .before .before .pre .1 .1 .0, pass-none (orderOf (a .o)) (typeAt (now (a .d)) (a .p)) (now (a .s)) (a .n) (a .at) _ (c .none-passed .ensures))
+loop-holds c = let a = c .before .before .before .args in (c .before .before .before .pre .1 .1 .0, pass-none (orderOf (a .o)) (typeAt (now (a .d)) (a .p)) (now (a .s)) (a .n) (a .from .at) _ (c .none-passed .ensures))
 
 sub-shorter : tie.Need-sub-shorter Inv-loop μ-loop
 sub-shorter c = omega (arith, c .before .if1 .taken)
@@ -31,29 +32,30 @@ sub-shorter c = omega (arith, c .before .if1 .taken)
 shorter-requires : tie.Need-shorter-requires Inv-loop μ-loop
 shorter-requires c κs = (c .before .before .before .loop .inv .0, omega (arith, c .before .if1 .taken))
 
-add-pass-extent : tie.Need-add-pass-extent Inv-loop μ-loop
-add-pass-extent c =
-    let a = c .before .before .before .before .before .before .before .before .before .args in
-    let l = c .before .before .before .before .before .loop in
-    let pre = c .before .before .before .before .before .before .before .before .before .pre in
-    let within = passed-within (orderOf (a .o)) (typeAt (now (a .d)) (a .p)) (now (a .s)) (a .n) (a .at) (l .passed) (type-solid (now (a .d)) (a .p) (a .left) (pre .0)) (pre .1 .1 .1 .inside) (l .inv .1) in
-    record { fits = omega (arith, within .inside, pre .1 .1 .1 .short) }
+past-requires : tie.Need-past-requires Inv-loop μ-loop
+past-requires c κs =
+    let a = c .before .before .before .before .before .before .before .before .args in
+    let l = c .before .before .before .before .loop in
+    let pre = c .before .before .before .before .before .before .before .before .pre in
+    let within = passed-within (orderOf (a .o)) (typeAt (now (a .d)) (a .p)) (now (a .s)) (a .n) (a .from .at) (l .passed) (type-solid (now (a .d)) (a .p) (a .left) (pre .0)) (pre .1 .1 .1 .inside) (l .inv .1) in
+    omega (arith, within .inside, within .tokens, pre .1 .1 .1 .short)
 
 pass-extent-requires : tie.Need-pass-extent-requires Inv-loop μ-loop
 pass-extent-requires c κs =
     let a = c .before .before .before .before .before .before .before .before .before .args in
     let l = c .before .before .before .before .before .loop in
     let pre = c .before .before .before .before .before .before .before .before .before .pre in
-    let within = passed-within (orderOf (a .o)) (typeAt (now (a .d)) (a .p)) (now (a .s)) (a .n) (a .at) (l .passed) (type-solid (now (a .d)) (a .p) (a .left) (pre .0)) (pre .1 .1 .1 .inside) (l .inv .1) in
-    (pre .0, (pre .1 .0, record { inside = within .inside; short = pre .1 .1 .1 .short }))
+    let within = passed-within (orderOf (a .o)) (typeAt (now (a .d)) (a .p)) (now (a .s)) (a .n) (a .from .at) (l .passed) (type-solid (now (a .d)) (a .p) (a .left) (pre .0)) (pre .1 .1 .1 .inside) (l .inv .1) in
+    (pre .0, (pre .1 .0, record { inside = omega (arith, within .inside, within .tokens, ap (λ (x : Cursor). x .at) (c .past .ensures)); short = pre .1 .1 .1 .short }))
 
 together-requires : tie.Need-together-requires Inv-loop μ-loop
 together-requires c κs =
     let a = c .before .before .before .before .before .before .before .before .before .before .args in
     let l = c .before .before .before .before .before .before .loop in
     let pre = c .before .before .before .before .before .before .before .before .before .before .pre in
-    let within = passed-within (orderOf (a .o)) (typeAt (now (a .d)) (a .p)) (now (a .s)) (a .n) (a .at) (l .passed) (type-solid (now (a .d)) (a .p) (a .left) (pre .0)) (pre .1 .1 .1 .inside) (l .inv .1) in
-    let more = passed-within (orderOf (a .o)) (typeAt (now (a .d)) (a .p)) (now (a .s)) _ (a .at + l .passed .bytes) (c .pass-extent .result) (type-solid (now (a .d)) (a .p) (a .left) (pre .0)) (within .inside) (c .pass-extent .ensures) in
+    let within = passed-within (orderOf (a .o)) (typeAt (now (a .d)) (a .p)) (now (a .s)) (a .n) (a .from .at) (l .passed) (type-solid (now (a .d)) (a .p) (a .left) (pre .0)) (pre .1 .1 .1 .inside) (l .inv .1) in
+    let passes = rw (c .before .past .ensures) at (c .pass-extent .ensures) in
+    let more = passed-within (orderOf (a .o)) (typeAt (now (a .d)) (a .p)) (now (a .s)) _ (a .from .at + l .passed .bytes) (c .pass-extent .result) (type-solid (now (a .d)) (a .p) (a .left) (pre .0)) (within .inside) passes in
     (omega (arith, c .before .before .before .before .before .before .before .before .before .before .fits .n, l .inv .1 .most, c .pass-extent .ensures .most, c .before .before .shorter .ensures .1, c .before .before .before .before .if1 .taken), omega (arith, more .inside, pre .1 .1 .1 .short), omega (arith, within .tokens, more .tokens, more .inside, pre .1 .1 .1 .short))
 
 returns : tie.Need-returns Inv-loop μ-loop
@@ -61,7 +63,7 @@ returns c =
     let a = c .before .before .before .before .before .before .before .before .before .before .before .before .before .args in
     let l = c .before .before .before .before .before .before .before .before .before .loop in
     let pre = c .before .before .before .before .before .before .before .before .before .before .before .before .before .pre in
-    pass-next (orderOf (a .o)) (typeAt (now (a .d)) (a .p)) (now (a .s)) (a .n) _ (a .at) (l .passed) (c .before .before .before .pass-extent .result) _ (l .inv .1) (omega (arith, c .before .before .before .before .before .shorter .ensures .1, c .before .before .before .before .before .before .before .if1 .taken)) (c .before .before .before .pass-extent .ensures) (c .before .before .together .ensures)
+    pass-next (orderOf (a .o)) (typeAt (now (a .d)) (a .p)) (now (a .s)) (a .n) _ (a .from .at) (l .passed) (c .before .before .before .pass-extent .result) _ (l .inv .1) (omega (arith, c .before .before .before .before .before .shorter .ensures .1, c .before .before .before .before .before .before .before .if1 .taken)) (rw (c .before .before .before .before .past .ensures) at (c .before .before .before .pass-extent .ensures)) (c .before .before .together .ensures)
 
 longer-requires : tie.Need-longer-requires Inv-loop μ-loop
 longer-requires c κs = c .before .before .before .before .before .before .before .before .before .loop .inv .0
@@ -74,7 +76,7 @@ loop-again c =
     let a = c .before .before .before .before .before .before .before .before .before .before .before .before .before .before .args in
     let l = c .before .before .before .before .before .before .before .before .before .before .loop in
     let pre = c .before .before .before .before .before .before .before .before .before .before .before .before .before .before .pre in
-    (c .longer .ensures, pass-next (orderOf (a .o)) (typeAt (now (a .d)) (a .p)) (now (a .s)) (a .n) _ (a .at) (l .passed) (c .before .before .before .before .pass-extent .result) _ (l .inv .1) (omega (arith, c .before .before .before .before .before .before .shorter .ensures .1, c .before .before .before .before .before .before .before .before .if1 .taken)) (c .before .before .before .before .pass-extent .ensures) (c .before .before .before .together .ensures))
+    (c .longer .ensures, pass-next (orderOf (a .o)) (typeAt (now (a .d)) (a .p)) (now (a .s)) (a .n) _ (a .from .at) (l .passed) (c .before .before .before .before .pass-extent .result) _ (l .inv .1) (omega (arith, c .before .before .before .before .before .before .shorter .ensures .1, c .before .before .before .before .before .before .before .before .if1 .taken)) (rw (c .before .before .before .before .before .past .ensures) at (c .before .before .before .before .pass-extent .ensures)) (c .before .before .before .together .ensures))
 
 returns-2 : tie.Need-returns-2 Inv-loop μ-loop
 returns-2 c = c .before .before .loop .inv .1
@@ -89,7 +91,7 @@ pass-stretches-spec =
     loop-holds
     sub-shorter
     shorter-requires
-    add-pass-extent
+    past-requires
     pass-extent-requires
     together-requires
     returns

@@ -24,21 +24,18 @@ returns c =
     let a = c .before .before .before .before .args in
     word-short (orderOf (a .o)) (now (a .s)) (a .self .at) (skip-cut (now (a .s)) (a .self .at) 4 (sym (c .enum-told .given .1) ∙ c .before .before .skip .ensures))
 
-number-4-requires : tie.Need-number-4-requires
-number-4-requires c κs =
+number-requires : tie.Need-number-requires
+number-requires c κs =
     let a = c .before .before .before .before .before .args in
     skip-to (now (a .s)) (a .self .at) 4 _ (sym (c .before .next .given .1) ∙ c .before .before .before .skip .ensures) .fits
-
-cast-t8 : tie.Need-cast-t8
-cast-t8 c = search needs
 
 returns-2 : tie.Need-returns-2
 returns-2 c =
     let a = c .before .before .before .before .before .before .args in
     let next = skip-to (now (a .s)) (a .self .at) 4 _ (sym (c .before .before .next .given .1) ∙ c .before .before .before .before .skip .ensures) in
-    ap₂ (λ (v : ℕ) (x : Cursor). Read v x) (c .number-4 .ensures) (next .next) ∙ word-fits (orderOf (a .o)) (now (a .s)) (a .self .at) (next .fits)
+    ap₂ (λ (v : ℕ) (x : Cursor). Read v x) (c .number .ensures) (next .next) ∙ word-fits (orderOf (a .o)) (now (a .s)) (a .self .at) (next .fits)
 
 pub word-spec : {M : Type 1} → statement M
 word-spec =
     tie.close
-    (tie.spec skip-requires enum-known-next enum-told returns number-4-requires cast-t8 returns-2)
+    (tie.spec skip-requires enum-known-next enum-told returns number-requires returns-2)
