@@ -1,4 +1,6 @@
 // The part of data at a path.
+#![tactic(auto)]
+
 pub mod part;
 pub mod past;
 pub mod reach;

@@ -10,7 +10,7 @@ use walking::check::check_data;
 
 // The answer to a view, with where the part starts in the data and how long it is; 0 and 0 where it is refused.
 #[repr(C)]
-#[derive(Drop)]
+#[derive(Clone, Copy)]
 pub struct Part {
     pub answer: Answer,
     pub start: usize,

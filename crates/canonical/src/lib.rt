@@ -1,4 +1,6 @@
 // Equality of descriptors, and their normal form.
+#![tactic(auto)]
+
 pub mod compare;
 pub mod normal;
 
@@ -6,7 +8,7 @@ use descriptor::answer::Answer;
 
 // The answer of a comparison: "yes or no".
 #[repr(C)]
-#[derive(Drop)]
+#[derive(Clone, Copy)]
 pub struct Compared {
     pub answer: Answer,
     pub equal: bool,

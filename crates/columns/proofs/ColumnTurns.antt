@@ -7,10 +7,10 @@ use native.Mathlib.Nat.{sub-zero, suc-mul}
 use native.Mathlib.Omega.{arith}
 use lib.ListN.{length, take, drop}
 use lib.Seq.{length-sets}
-use Rattle.byteorder.specs.inner.Turning.{turned_at, Room}
+use Rattle.byte_order.specs.inner.Turning.{turned_at, Room}
 use Rattle.columns.specs.inner.Columns.{copies, turned_column, turned_columns, Spread}
-use Rattle.byteorder.specs.Reversal.{number_count, number_width}
-use Rattle.byteorder.proofs.Widths.{Halved, Whole}
+use Rattle.byte_order.specs.Reversal.{number_count, number_width}
+use Rattle.byte_order.proofs.Widths.{Halved, Whole}
 
 -- the first of n + 1 places
 pub spread-here : (s out : List ℕ) (stop step n : ℕ) → Spread s out stop step (suc n) → Room s out stop

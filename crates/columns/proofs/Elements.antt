@@ -8,10 +8,10 @@ use native.Mathlib.Omega.{arith}
 use lib.ListN.{length, set, take, drop, length-take, length-reverse}
 use lib.Seq.{sets, length-sets}
 use Rattle.number.proofs.Writing.{sets-past}
-use Rattle.byteorder.specs.inner.Turning.{turned_at, turned_run}
+use Rattle.byte_order.specs.inner.Turning.{turned_at, turned_run}
 use Rattle.columns.specs.inner.Columns.{copies, total, turned_numbers, turned_elements, turned_column, turned_columns}
 use Rattle.columns.proofs.ColumnTurns.{column-length}
-use Rattle.byteorder.proofs.RunTurns.{run-split}
+use Rattle.byte_order.proofs.RunTurns.{run-split}
 
 -- one run of stores past another
 sets-apart : (l : List ℕ) (at : ℕ) (xs : List ℕ) (p : ℕ) (ys : List ℕ) → at + length xs ≤ p → sets (sets l p ys) at xs ≡ sets (sets l at xs) p ys

@@ -18,10 +18,10 @@ use Rattle.flattened.specs.declared.extent.Extent.{Extent}
 use Rattle.flattened.specs.declared.extent.Extent.TheVariants.{Varies, Fixed, Around}
 use Rattle.flattened.proofs.ExtentTurns.{Small, type-few}
 use Rattle.flattened.proofs.Types.{type-solid}
-use Rattle.byteorder.specs.Reversal.{number_count, number_width}
-use Rattle.byteorder.specs.inner.Turning.{turned_run, NumberWide}
+use Rattle.byte_order.specs.Reversal.{number_count, number_width}
+use Rattle.byte_order.specs.inner.Turning.{turned_run, NumberWide}
 use Rattle.columns.specs.inner.Columns.{copies, numbers_fields, numbers_in, numbers_all, total, mixed, joined_width, common_width, turned_elements, Even, Stepped}
-use Rattle.byteorder.proofs.Widths.{numbers-all, number-wide}
+use Rattle.byte_order.proofs.Widths.{numbers-all, number-wide}
 use Rattle.columns.proofs.Elements.{total-append, total-copies, elements-run}
 
 unfoldable pub is_fixed : Extent → Bool

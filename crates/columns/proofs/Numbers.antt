@@ -23,10 +23,10 @@ use Rattle.flattened.specs.inner.Types.{type_at, types_at, TypeStands, RowStands
 use Rattle.flattened.proofs.Cases.{it, is-measured, not-measured, types-inside, compound-inside}
 use Rattle.flattened.proofs.Codes.{is_measured}
 use Rattle.flattened.proofs.Types.{RowTurn, row-turn}
-use Rattle.byteorder.specs.Reversal.{number_count, number_width}
+use Rattle.byte_order.specs.Reversal.{number_count, number_width}
 use Rattle.columns.specs.inner.Columns.{copies, numbers_fields, numbers_in, numbers_all, total, mixed, joined_width, common_width, turned_columns, Spread, ColumnsTurned}
 use Rattle.columns.proofs.ColumnTurns.{spread-as}
-use Rattle.byteorder.proofs.Widths.{numbers-all}
+use Rattle.byte_order.proofs.Widths.{numbers-all}
 use Rattle.columns.proofs.Elements.{total-append, total-copies, columns-append, columns-length}
 
 -- of a scalar's fields, a compound's, and others

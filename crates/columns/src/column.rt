@@ -1,12 +1,12 @@
 // Numbers that stand at one place of every element of an array: one tight loop for each width.
 ghost use Rattle.std.specs.Prelude.{◌≡◌, ◌+◌, ◌<◌};
 ghost use Rattle.descriptor.specs.Width.{width_of};
-ghost use Rattle.byteorder.specs.inner.Turning.{NumberWide};
+ghost use Rattle.byte_order.specs.inner.Turning.{NumberWide};
 ghost use Rattle.columns.specs.inner.Columns.{copies, turned_column, turned_columns, Spread};
-ghost use Rattle.byteorder.specs.Reversal.{number_count, number_width};
+ghost use Rattle.byte_order.specs.Reversal.{number_count, number_width};
 
-use byteorder::numbers::{turn_number_2, turn_number_4, turn_number_8, turn_number_16};
-use byteorder::scalars::is_complex;
+use byte_order::numbers::{turn_number_2, turn_number_4, turn_number_8, turn_number_16};
+use byte_order::scalars::is_complex;
 
 // n single bytes, which stay as they are, each `step` bytes past the one before.
 fn turn_column_1(s: &[u8], out: &mut [u8], at: usize, step: usize, n: usize)

@@ -5,8 +5,8 @@ ghost use Rattle.flattened.specs.inner.Types.{type_at, types_at, TypeStands, Row
 ghost use Rattle.columns.specs.inner.Columns.{numbers_in, numbers_all, total, joined_width, common_width, turned_elements, Spread, Laid, Even, Stepped, ColumnsTurned};
 
 use super::column::turn_scalar_column;
-use byteorder::runs::turn_run;
-use byteorder::scalars::number_width;
+use byte_order::runs::turn_run;
+use byte_order::scalars::number_width;
 use descriptor::codes::is_compound;
 use descriptor::header::{code_at, size_at};
 use descriptor::inside::inside_of;

@@ -21,7 +21,7 @@ use Rattle.flattened.specs.Order.{Order, big, little}
 use Rattle.flattened.specs.Token.{Token}
 use Rattle.flattened.specs.Walk.{walk, walked}
 use Rattle.flattened.specs.Answers.{data_check}
-use Rattle.byteorder.specs.Reversal.{reversed, turned, to_little_endian, from_little_endian}
+use Rattle.byte_order.specs.Reversal.{reversed, turned, to_little_endian, from_little_endian}
 use Rattle.access.specs.Path.{Spot, spot_of, no_part, part_of, located}
 use Rattle.access.specs.declared.part.Part.{Part}
 use Rattle.reading.specs.Values.{number_of, no_value, read_value}

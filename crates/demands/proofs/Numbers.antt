@@ -32,7 +32,7 @@ use Rattle.flattened.specs.Token.{Token}
 use Rattle.flattened.specs.Walk.{walk_fields, walk, walked}
 use Rattle.flattened.specs.Answers.{data_check}
 use Rattle.flattened.proofs.Refusals.{refused-of-data}
-use Rattle.byteorder.specs.Reversal.{reversed, turned}
+use Rattle.byte_order.specs.Reversal.{reversed, turned}
 use Rattle.access.specs.Path.{Spot, spot_of, no_part, part_of, located}
 use Rattle.access.specs.declared.part.Part.{Part}
 use Rattle.reading.specs.Values.{is_value, value_at, number_of, no_value, read_value}

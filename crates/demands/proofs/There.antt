@@ -32,7 +32,7 @@ use Rattle.reading.specs.declared.value.Value.{Value as Given}
 use Rattle.reading.specs.declared.value.Value.TheVariants.{Nothing}
 use Rattle.reading.proofs.Values.{inside, value_none}
 use Rattle.values.specs.Value.{Value, numbers, characters, elements, parts, Values, count, AllBelow, Scalar, Fits, plain, enumeration, quantity, string, array, cluster, stamp, AllFit, without, element, EachFits, done, member, in_order, flatten, flatten_elements, flatten_members, Data, Here}
-use Rattle.byteorder.specs.Reversal.{number_count, number_width}
+use Rattle.byte_order.specs.Reversal.{number_count, number_width}
 use Rattle.values.specs.Pieces.{pieces_at}
 use Rattle.values.proofs.Places.{here-whole, here-first, here-second}
 use Rattle.values.proofs.Numbers.{number_read, length-in_order}

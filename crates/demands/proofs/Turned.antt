@@ -18,7 +18,7 @@ use Rattle.descriptor.specs.Output.{Written, written_to, given}
 use Rattle.flattened.specs.Order.{Order, big, little}
 use Rattle.flattened.specs.Token.{Token}
 use Rattle.flattened.specs.Walk.{walked}
-use Rattle.byteorder.specs.Reversal.{reversed, turned, to_little_endian, from_little_endian}
+use Rattle.byte_order.specs.Reversal.{reversed, turned, to_little_endian, from_little_endian}
 use Rattle.values.specs.Value.{Value, Fits, other, flatten}
 use Rattle.values.proofs.Accepted.{Accepts, sound}
 use Rattle.values.proofs.Forms.{Form, there_and_back, form-bytes, little-exactly}

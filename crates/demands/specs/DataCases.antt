@@ -17,7 +17,7 @@ use Rattle.descriptor.specs.declared.answer.Answer.{Answer}
 use Rattle.flattened.specs.Order.{number_at}
 use Rattle.flattened.specs.Walk.{scalar_at, text_at, sizes_at, sizes_fit, product, array_at, repeat, walk_fields, walk, walk_all, walked}
 use Rattle.flattened.specs.Answers.{data_check}
-use Rattle.byteorder.specs.Reversal.{reverse_each, number_count, number_width, reverse_token, reversed, turned, to_little_endian, from_little_endian}
+use Rattle.byte_order.specs.Reversal.{reverse_each, number_count, number_width, reverse_token, reversed, turned, to_little_endian, from_little_endian}
 use Rattle.access.specs.Path.{member_at, step_at, spot_at, no_part, part_of, located}
 use Rattle.reading.specs.Values.{of_single, of_double, value_of, is_value, number_of, no_value, read_value, value_kind, complement, value_bits}
 use Rattle.access.specs.declared.part.Part.{Part}

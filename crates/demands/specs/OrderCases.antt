@@ -13,7 +13,7 @@ use Rattle.canonical.specs.Equality.{same_list, same_name, items_of, pairs_of, s
 use Rattle.flattened.specs.Order.{number_at}
 use Rattle.flattened.specs.Walk.{scalar_at, text_at, sizes_at, sizes_fit, product, array_at, repeat, walk_fields, walk, walk_all, walked}
 use Rattle.flattened.specs.Answers.{data_check}
-use Rattle.byteorder.specs.Reversal.{reverse_each, number_count, number_width, reverse_token, reversed, turned, to_little_endian, from_little_endian}
+use Rattle.byte_order.specs.Reversal.{reverse_each, number_count, number_width, reverse_token, reversed, turned, to_little_endian, from_little_endian}
 use Rattle.access.specs.Path.{member_at, step_at, spot_at, no_part, part_of, located}
 use Rattle.reading.specs.Values.{of_single, of_double, value_of, is_value, number_of, no_value, read_value}
 use Rattle.resolution.specs.Record.{members_from, writer_fields, is_among, reader_names, reader_fields, matches, namesakes, searched, search_number, member_found, member_bytes, joined_bytes, record_bytes, resolved}

@@ -4,7 +4,7 @@ ghost use Rattle.descriptor.specs.Answers.{refusal};
 
 // Its number, the input at fault and a place.
 #[repr(C)]
-#[derive(Drop)]
+#[derive(Clone, Copy)]
 pub struct Answer {
     pub number: u32,
     pub input: u32,
@@ -25,7 +25,7 @@ pub fn answered(number: u32, input: u32, place: usize) -> Answer
 
 // A row of the descriptor table: "low code byte, start, size, depth, count .., name place .., name length".
 #[repr(C)]
-#[derive(Drop)]
+#[derive(Clone, Copy)]
 pub struct Row {
     pub code: u16,
     pub start: u16,
@@ -38,7 +38,7 @@ pub struct Row {
 
 // The answer of a descriptor check, with the table.
 #[repr(C)]
-#[derive(Drop)]
+#[derive(Clone, Copy)]
 pub struct Checked {
     pub answer: Answer,
     pub rows: [Row; 256],

@@ -33,7 +33,7 @@ pub const STAMP_PARTS: usize = 1;
 pub const FIXED_WORD: usize = 0xFFFF_FFFF;
 
 // What stands in the body of a descriptor of some code.
-#[derive(Drop)]
+#[derive(Clone, Copy)]
 pub enum Kind {
     Plain,
     Enumeration,

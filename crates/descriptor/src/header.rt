@@ -13,7 +13,7 @@ use number::endian::be16;
 const HEADER_SIZE: usize = 4;
 
 // Where not `ok`, the refusal's number and place. Else the descriptor's size, where its body starts, and its low code byte.
-#[derive(Drop)]
+#[derive(Clone, Copy)]
 pub struct Head {
     pub ok: bool,
     pub number: u32,

@@ -8,7 +8,7 @@ use number::endian::be16;
 
 // Where the descriptors in a body start, or an enumeration's items; the count of items, pairs, dimensions or members; and how many
 // descriptors there are.
-#[derive(Drop)]
+#[derive(Clone, Copy)]
 pub struct Inside {
     pub at: usize,
     pub count: usize,

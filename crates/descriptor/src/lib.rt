@@ -1,4 +1,6 @@
 // What a LabVIEW type descriptor is, its header, and what is inside an accepted one.
+#![tactic(auto)]
+
 pub mod answer;
 pub mod codes;
 pub mod header;

@@ -8,7 +8,7 @@ use super::header::code_place;
 
 // Where not `ok`, the refusal's number and place. Else the next byte, the number that was read for (a count, a name's length, how many
 // rows there are then: each function says which), and how many children follow.
-#[derive(Drop)]
+#[derive(Clone, Copy)]
 pub struct Step {
     pub ok: bool,
     pub number: u32,

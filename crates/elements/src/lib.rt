@@ -1,3 +1,5 @@
 // An array's elements, looked at together.
+#![tactic(auto)]
+
 pub mod columns;
 pub mod largest;

@@ -7,20 +7,20 @@ ghost use Rattle.flattened.specs.inner.Cursor.{cursor, skipped, word_at};
 use super::order::{Order, number_4};
 
 // Where the next token starts: "Each piece starts exactly where the one before it ended".
-#[derive(Drop)]
+#[derive(Clone, Copy)]
 pub struct Cursor {
     pub at: usize,
 }
 
 // The cursor past some bytes; or the data ends before.
-#[derive(Drop)]
+#[derive(Clone, Copy)]
 pub enum Skip {
     To(Cursor),
     Cut,
 }
 
 // A word and the cursor past it; or the data ends before.
-#[derive(Drop)]
+#[derive(Clone, Copy)]
 pub enum Word {
     Read(usize, Cursor),
     Cut,

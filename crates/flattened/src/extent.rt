@@ -11,7 +11,7 @@ use descriptor::inside::inside_of;
 use descriptor::width::width;
 
 // Each number is below a limit, else refused; or any will do.
-#[derive(Drop)]
+#[derive(Clone, Copy)]
 pub enum Rule {
     Any,
     Below(usize),
@@ -31,7 +31,7 @@ pub fn rule_of(d: &[u8], p: usize) -> Rule
 
 // Bytes and tokens, and whether any number among them is judged; or the bytes before and after one string, the tokens, and whether any
 // number is judged. A type with an array or two strings inside varies.
-#[derive(Drop)]
+#[derive(Clone, Copy)]
 pub enum Extent {
     Varies,
     Fixed(usize, usize, bool),

@@ -1,4 +1,6 @@
 // Flattened data under a type.
+#![tactic(auto)]
+
 pub mod cursor;
 pub mod extent;
 pub mod limits;

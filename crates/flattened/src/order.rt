@@ -8,7 +8,7 @@ ghost use Rattle.flattened.specs.inner.Order.{order_of, swapped, Narrow};
 use number::endian::read_le;
 
 // "All big-endian", or "these words read reversed".
-#[derive(Drop)]
+#[derive(Clone, Copy)]
 pub enum Order {
     Big,
     Little,

@@ -10,7 +10,7 @@ use super::limits::{ELEMENT_CAP, LENGTH_LIMIT};
 use super::order::{Order, number_4};
 
 // The number of elements, cut at `ELEMENT_CAP`, and the cursor past the size words; or a refusal's number and place.
-#[derive(Drop)]
+#[derive(Clone, Copy)]
 pub enum Sizes {
     Count(usize, Cursor),
     Refused(u32, usize),

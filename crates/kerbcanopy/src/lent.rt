@@ -7,7 +7,7 @@ ghost use Rattle.canonical.specs.Normal.{normal_form};
 ghost use Rattle.flattened.specs.Answers.{data_check};
 ghost use Rattle.access.specs.Path.{located};
 ghost use Rattle.reading.specs.Values.{read_value, value_kind, value_bits};
-ghost use Rattle.byteorder.specs.Reversal.{to_little_endian, from_little_endian};
+ghost use Rattle.byte_order.specs.Reversal.{to_little_endian, from_little_endian};
 ghost use Rattle.resolution.specs.Record.{resolved};
 ghost use Rattle.timestamp.specs.Difference.{difference};
 ghost use Rattle.store.specs.Check.{book_check};

@@ -1,5 +1,7 @@
 // Kerbcanopy's public entries, as C finds them: `include/kerbcanopy.h` declares each under the same name. Every entry takes any bytes,
 // asks nothing of its caller, and answers exactly what the definition that its contract cites says, refusals included.
+#![tactic(auto)]
+
 pub mod book;
 pub mod lent;
 pub mod version;
@@ -11,7 +13,7 @@ ghost use Rattle.canonical.specs.Normal.{normal_form};
 ghost use Rattle.flattened.specs.Answers.{data_check};
 ghost use Rattle.access.specs.Path.{located};
 ghost use Rattle.reading.specs.Values.{read_value, value_kind, value_bits};
-ghost use Rattle.byteorder.specs.Reversal.{to_little_endian, from_little_endian};
+ghost use Rattle.byte_order.specs.Reversal.{to_little_endian, from_little_endian};
 ghost use Rattle.resolution.specs.Record.{resolved};
 ghost use Rattle.timestamp.specs.Difference.{difference};
 
@@ -65,7 +67,7 @@ pub extern "C" fn kc_check_data(descriptor: &[u8], data: &[u8]) -> Answer
 
 // The answer to a reading, with the value's kind and bits, as C takes them.
 #[repr(C)]
-#[derive(Drop)]
+#[derive(Clone, Copy)]
 pub struct ValueRead {
     pub answer: Answer,
     pub kind: u32,

@@ -1,4 +1,6 @@
 // Answers and rows as numbers one after another, for callers that lend arrays of numbers.
+#![tactic(auto)]
+
 ghost use Rattle.std.specs.Prelude.{◌≡◌, ◌++◌, ◌+◌, ◌-◌, ◌*◌, ◌≤◌, length, take, drop, replicate};
 ghost use Rattle.layout.specs.Numbers.{answer_numbers, row_numbers, rows_numbers, truth};
 ghost use Rattle.layout.specs.inner.Used.{rows_used};

@@ -27,9 +27,9 @@ use Rattle.walking.proofs.Checking.{top-stands}
 use Rattle.flattened.proofs.Refusals as data-refusals
 use Rattle.flattened.proofs.Repeats.{repeat-one}
 use Rattle.flattened.proofs.Types.{type-solid}
-use Rattle.byteorder.specs.Reversal.{reversed, turned}
+use Rattle.byte_order.specs.Reversal.{reversed, turned}
 use Rattle.turning.specs.inner.Tokens.{turned_tokens, tokens_of, Turnable, Turned}
-use Rattle.byteorder.proofs.Chained.{walk-chain}
+use Rattle.byte_order.proofs.Chained.{walk-chain}
 use Rattle.little.proofs.Whole.{whole_length, whole-turned}
 
 -- data that is walked to its end

@@ -8,9 +8,9 @@ use lib.ListN.{length, take, drop, length-append, length-reverse, length-take, l
 use lib.Seq.{sets, sets-eq, length-slice}
 use Rattle.flattened.specs.Token.{TokenKind, scalar, string, sizes, Token, token_bytes, Chain, done, link}
 use Rattle.number.proofs.Writing.{sets-append}
-use Rattle.byteorder.specs.Reversal.{reverse_each, number_count, number_width, reverse_token, reversed}
+use Rattle.byte_order.specs.Reversal.{reverse_each, number_count, number_width, reverse_token, reversed}
 use Rattle.turning.specs.inner.Tokens.{turned_tokens}
-use Rattle.byteorder.proofs.Chained.{chain-order}
+use Rattle.byte_order.proofs.Chained.{chain-order}
 
 -- numbers reversed are as many bytes
 each-length : (w k : ℕ) (x : List ℕ) → length (reverse_each w k x) ≡ length x

@@ -1,7 +1,9 @@
 // The little-endian form of flattened data, there and back.
+#![tactic(auto)]
+
 ghost use Rattle.std.specs.Prelude.{◌≡◌};
 ghost use Rattle.flattened.specs.inner.Order.{order_of};
-ghost use Rattle.byteorder.specs.Reversal.{turned, to_little_endian, from_little_endian};
+ghost use Rattle.byte_order.specs.Reversal.{turned, to_little_endian, from_little_endian};
 
 use descriptor::answer::{Answer, answered};
 use descriptor::limits::DEPTH_LIMIT;

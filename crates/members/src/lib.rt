@@ -1,4 +1,6 @@
 // The members of a cluster: their rows, where they and their names stand, which have a name, and their bytes joined.
+#![tactic(auto)]
+
 pub mod chains;
 pub mod columns;
 pub mod joining;

@@ -3,14 +3,14 @@ ghost use Rattle.std.specs.Prelude.{◌≡◌};
 ghost use Rattle.number.specs.Float.{single_of, double_of};
 
 // A 32-bit float: a number or an infinity, or the bits of a NaN.
-#[derive(Drop)]
+#[derive(Clone, Copy)]
 pub enum Single {
     Number(f32),
     Nan(u32),
 }
 
 // A 64-bit float: a number or an infinity, or the bits of a NaN.
-#[derive(Drop)]
+#[derive(Clone, Copy)]
 pub enum Double {
     Number(f64),
     Nan(u64),

@@ -1,4 +1,6 @@
 // Numbers in a byte order, signed numbers and floats by their bits, proved once for any width.
+#![tactic(auto)]
+
 pub mod endian;
 pub mod float;
 pub mod signed;

@@ -1,3 +1,5 @@
 // The value at a path.
+#![tactic(auto)]
+
 pub mod reading;
 pub mod value;

@@ -13,7 +13,7 @@ use number::signed::signed_of;
 
 // "an unsigned number, a signed number, a single, a double or a flag". A float of the language holds no NaN's bits, so the patterns of
 // NaNs are cases of their own; a refusal gives `Nothing`.
-#[derive(Drop)]
+#[derive(Clone, Copy)]
 pub enum Value {
     Nothing,
     Unsigned(u64),
@@ -26,7 +26,7 @@ pub enum Value {
 }
 
 // The answer to a reading, with the value.
-#[derive(Drop)]
+#[derive(Clone, Copy)]
 pub struct Reading {
     pub answer: Answer,
     pub value: Value,

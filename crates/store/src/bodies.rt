@@ -17,7 +17,7 @@ use validation::validate::validate;
 
 // A descriptor that was judged: where it stands in the book and how long it is, which member carries the identifier, and its data's span.
 // `right` is 0 where it is not right, or where there is none; a truth value beside numbers would be slow to copy.
-#[derive(Drop)]
+#[derive(Clone, Copy)]
 pub struct Judged {
     pub right: usize,
     pub from: usize,

@@ -12,7 +12,7 @@ use descriptor::limits::DEPTH_LIMIT;
 use flattened::extent::{Extent, extent_of};
 
 // How long the data is, 0 where that varies or a number in it is judged; and where the identifier stands in it.
-#[derive(Drop)]
+#[derive(Clone, Copy)]
 pub struct Span {
     pub width: usize,
     pub place: usize,

@@ -15,7 +15,7 @@ use resolution::picking::pick;
 use validation::validate::validate;
 
 // A number; where not `ok`, the refusal.
-#[derive(Drop)]
+#[derive(Clone, Copy)]
 pub struct Told {
     pub ok: bool,
     pub answer: Answer,

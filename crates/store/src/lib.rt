@@ -1,4 +1,6 @@
 // The blank book: checked, searched, listed, and one record added at its end.
+#![tactic(auto)]
+
 pub mod add;
 pub mod bodies;
 pub mod fixed;

@@ -8,7 +8,7 @@ use super::bodies::{Judged, begins_like, says_at_once};
 use super::spans::{entry_at, entry_place};
 
 // How far a run goes: the entry after it, and where the last body in it ends.
-#[derive(Drop)]
+#[derive(Clone, Copy)]
 pub struct Run {
     pub next: usize,
     pub at: usize,

@@ -17,7 +17,7 @@ pub fn entry_place(i: usize) -> usize
 }
 
 // What an entry says: its identifier, where its body starts, how long the descriptor there is, and how long the data after it.
-#[derive(Drop)]
+#[derive(Clone, Copy)]
 pub struct Entry {
     pub identifier: usize,
     pub start: usize,

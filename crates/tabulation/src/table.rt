@@ -101,7 +101,7 @@ fn row_shape(d: &[u8], p: usize, stop: usize, code: u8) -> Inside
 }
 
 // A descriptor whose children are being filled: its row's number, what its row says, and how many descriptors stand after it in its row.
-#[derive(Drop)]
+#[derive(Clone, Copy)]
 pub struct Open {
     pub n: usize,
     pub start: usize,

@@ -1,5 +1,7 @@
 // The exact difference of two time stamps. Inside, signed seconds are counted from the least that 64 bits hold, so that they are whole numbers
 // from 0 on.
+#![tactic(auto)]
+
 ghost use Rattle.std.specs.Prelude.{◌≡◌, ◌+◌, ◌*◌, ◌^◌, ◌<◌, ◌≤◌, pos, negsuc, ◌+ℤ◌, ◌-ℤ◌, ◌*ℤ◌};
 ghost use Rattle.number.specs.inner.Post.{Bounded};
 ghost use Rattle.timestamp.specs.Difference.{bits_of, too_far, given, difference};
@@ -13,7 +15,7 @@ const HALF_RANGE: u64 = 0x8000_0000_0000_0000;
 
 // The seconds and the fraction of the first stamp less the second, in units of 2^-64 second; both 0 where it is refused.
 #[repr(C)]
-#[derive(Drop)]
+#[derive(Clone, Copy)]
 pub struct Difference {
     pub answer: Answer,
     pub seconds: i64,

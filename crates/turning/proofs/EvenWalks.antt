@@ -19,7 +19,7 @@ use Rattle.flattened.specs.Order.{Order, number_at}
 use Rattle.flattened.specs.Token.{Token}
 use Rattle.flattened.specs.Walk.{scalar_at, repeat, walk_fields, walk, walk_all}
 use Rattle.flattened.specs.inner.Extent.{extent_fields, extent_of, extent_all}
-use Rattle.byteorder.specs.Reversal.{number_count, number_width}
+use Rattle.byte_order.specs.Reversal.{number_count, number_width}
 use Rattle.turning.specs.inner.Tokens.{turned_tokens, tokens_of, Turnable, Turned}
 use Rattle.columns.specs.inner.Columns.{copies, numbers_fields, numbers_in, numbers_all, total, turned_numbers, turned_elements, Laid, Even}
 use Rattle.turning.proofs.Tokens.{scalar-token, tokens_append}

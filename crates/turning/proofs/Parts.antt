@@ -30,9 +30,9 @@ use Rattle.flattened.proofs.Cases.{walk-number}
 use Rattle.flattened.proofs.Forward.{walk-forward, sizes-end}
 use Rattle.flattened.proofs.Repeats.{repeat-one}
 use Rattle.flattened.proofs.Types.{RowTurn, row-turn}
-use Rattle.byteorder.specs.inner.Turning.{turned_run, Room}
+use Rattle.byte_order.specs.inner.Turning.{turned_run, Room}
 use Rattle.turning.specs.inner.Tokens.{tokens_of, Turnable, Turned, SizesTurned}
-use Rattle.byteorder.specs.Reversal.{number_count, number_width}
+use Rattle.byte_order.specs.Reversal.{number_count, number_width}
 use Rattle.turning.proofs.Tokens.{sizes-token}
 use Rattle.turning.proofs.Remaining.{Remains, remains-all, first-turnable, remains-next, remains-none}
 use Rattle.turning.proofs.Pieces.{ScalarRead, scalar_read, scalars-turned}

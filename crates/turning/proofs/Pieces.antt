@@ -17,12 +17,12 @@ use Rattle.descriptor.proofs.Steps.{impossible}
 use Rattle.flattened.specs.Order.{Order, number_at}
 use Rattle.flattened.specs.Token.{Token, scalar, string}
 use Rattle.flattened.specs.Walk.{token, single, scalar_at, text_at, repeat}
-use Rattle.byteorder.specs.inner.Turning.{turned_at, turned_run}
+use Rattle.byte_order.specs.inner.Turning.{turned_at, turned_run}
 use Rattle.turning.specs.inner.Tokens.{turned_tokens, tokens_of, Turnable, Turned}
-use Rattle.byteorder.specs.Reversal.{number_count, number_width}
-use Rattle.byteorder.proofs.RunTurns.{run-split}
+use Rattle.byte_order.specs.Reversal.{number_count, number_width}
+use Rattle.byte_order.proofs.RunTurns.{run-split}
 use Rattle.turning.proofs.Tokens.{scalar-token, string-token}
-use Rattle.byteorder.proofs.Widths.{numbers-all}
+use Rattle.byte_order.proofs.Widths.{numbers-all}
 use Rattle.turning.proofs.Remaining.{remains-all, first-turnable, remains-next, remains-last}
 
 -- a test that must hold for anything to be read

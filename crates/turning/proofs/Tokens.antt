@@ -12,10 +12,10 @@ use Rattle.descriptor.specs.Width.{width_of}
 use Rattle.flattened.specs.Token.{Token, scalar, string, sizes}
 use Rattle.flattened.specs.Walk.{token}
 use Rattle.number.proofs.Writing.{sets-append}
-use Rattle.byteorder.specs.Reversal.{reverse_each, reverse_token, number_count, number_width}
-use Rattle.byteorder.specs.inner.Turning.{turned_at, turned_run}
+use Rattle.byte_order.specs.Reversal.{reverse_each, reverse_token, number_count, number_width}
+use Rattle.byte_order.specs.inner.Turning.{turned_at, turned_run}
 use Rattle.turning.specs.inner.Tokens.{turned_tokens}
-use Rattle.byteorder.proofs.Widths.{numbers-all}
+use Rattle.byte_order.proofs.Widths.{numbers-all}
 
 -- m elements from `at` on
 slice-part : (at m : ℕ) (s : List ℕ) → slice at (at + m) s ≡ take m (drop at s)

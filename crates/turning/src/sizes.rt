@@ -4,10 +4,10 @@ ghost use Rattle.descriptor.specs.Limits.{dimension_limit};
 ghost use Rattle.descriptor.specs.inner.Standing.{is_read};
 ghost use Rattle.flattened.specs.Walk.{array_at};
 ghost use Rattle.flattened.specs.inner.Order.{order_of};
-ghost use Rattle.byteorder.specs.inner.Turning.{Room};
+ghost use Rattle.byte_order.specs.inner.Turning.{Room};
 ghost use Rattle.turning.specs.inner.Tokens.{SizesTurned};
 
-use byteorder::runs::turn_run_4;
+use byte_order::runs::turn_run_4;
 use flattened::cursor::Cursor;
 use flattened::order::Order;
 use flattened::sizes::{Sizes, size_words};

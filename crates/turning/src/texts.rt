@@ -3,8 +3,8 @@ ghost use Rattle.flattened.specs.Walk.{text_at, repeat};
 ghost use Rattle.flattened.specs.inner.Order.{order_of};
 ghost use Rattle.turning.specs.inner.Tokens.{Turnable, Turned};
 
-use byteorder::numbers::turn_number_4;
-use byteorder::runs::turn_run_1;
+use byte_order::numbers::turn_number_4;
+use byte_order::runs::turn_run_1;
 use flattened::order::{Order, number_4};
 
 // The string at `at`.

@@ -10,7 +10,7 @@ ghost use Rattle.turning.specs.inner.Tokens.{Turnable, Turned};
 
 use super::sizes::turn_sizes;
 use super::texts::{turn_text, turn_texts};
-use byteorder::scalars::{turn_scalar, turn_scalars};
+use byte_order::scalars::{turn_scalar, turn_scalars};
 use columns::even::{even_step, turn_even};
 use descriptor::codes::{Kind, is_compound, kind_of};
 use descriptor::header::{code_at, size_at};

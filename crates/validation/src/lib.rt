@@ -1,4 +1,6 @@
 // The check of any bytes as a type descriptor.
+#![tactic(auto)]
+
 pub mod fields;
 pub mod name;
 pub mod rest;

@@ -19,7 +19,7 @@ use Rattle.encoding.proofs.Complete.{pass, onward}
 use Rattle.flattened.specs.Order.{Order}
 use Rattle.flattened.specs.Token.{Token}
 use Rattle.flattened.specs.Walk.{walk, walked}
-use Rattle.byteorder.specs.Reversal.{reversed}
+use Rattle.byte_order.specs.Reversal.{reversed}
 use Rattle.values.specs.Value.{Value, Fits, other, flatten, Data}
 use Rattle.values.specs.Pieces.{pieces}
 use Rattle.values.proofs.Places.{here-whole, whole_here}

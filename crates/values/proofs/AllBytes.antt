@@ -9,7 +9,7 @@ use Rattle.descriptor.specs.Encoding.{Bytes}
 use Rattle.encoding.proofs.Slices.{bytes-append, bytes-be_bytes}
 use Rattle.flattened.specs.Order.{Order, big, little}
 use Rattle.values.specs.Value.{Value, Values, Fits, plain, enumeration, quantity, string, array, cluster, stamp, AllFit, without, element, EachFits, done, member, ordered, in_order, flatten, flatten_elements, flatten_members}
-use Rattle.byteorder.specs.Reversal.{number_width}
+use Rattle.byte_order.specs.Reversal.{number_width}
 
 -- a number's, least significant byte first
 bytes-le_bytes : (w n : ℕ) → Bytes (le_bytes w n)

@@ -18,8 +18,8 @@ use Rattle.flattened.specs.Order.{Order, big, little}
 use Rattle.flattened.specs.Token.{Token}
 use Rattle.flattened.specs.Walk.{walked}
 use Rattle.flattened.specs.Answers.{data_check}
-use Rattle.byteorder.specs.Reversal.{to_little_endian, from_little_endian}
-use Rattle.byteorder.specs.Reversal as Reversal
+use Rattle.byte_order.specs.Reversal.{to_little_endian, from_little_endian}
+use Rattle.byte_order.specs.Reversal as Reversal
 use Rattle.values.specs.Value.{Value, Fits, other, flatten, Data}
 use Rattle.values.specs.Pieces.{pieces}
 use Rattle.values.proofs.Accepted.{complete, turned, sound}

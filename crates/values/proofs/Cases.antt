@@ -15,7 +15,7 @@ use Rattle.descriptor.specs.Width.{width_of}
 use Rattle.flattened.specs.Order.{big, little, number_at}
 use Rattle.flattened.specs.Walk.{scalar_at, sizes_at, sizes_fit, product, array_at, repeat, walk_fields, walk, walked}
 use Rattle.values.specs.Value.{Value, numbers, elements, parts, none, also, count, AllBelow, Fits, plain, array, cluster, without, done, member, ordered, in_order, flatten, Data}
-use Rattle.byteorder.specs.Reversal.{number_count, number_width}
+use Rattle.byte_order.specs.Reversal.{number_count, number_width}
 use Rattle.values.specs.Pieces.{pieces_at, pieces}
 use Rattle.values.proofs.Accepted.{refused_none}
 

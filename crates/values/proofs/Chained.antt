@@ -15,7 +15,7 @@ use Rattle.encoding.proofs.Slices.{slice_all, slice-join}
 use Rattle.flattened.specs.Order.{Order, big}
 use Rattle.flattened.specs.Token.{Token, joined, Chain, link}
 use Rattle.flattened.specs.Walk.{walked}
-use Rattle.byteorder.proofs.Chained.{chain-order, chain-append}
+use Rattle.byte_order.proofs.Chained.{chain-order, chain-append}
 use Rattle.values.specs.Value.{Value, Values, Fits, plain, enumeration, quantity, string, array, cluster, stamp, AllFit, without, element, EachFits, member, ordered, in_order, flatten, flatten_elements, flatten_members}
 use Rattle.values.specs.Pieces.{pieces, pieces_at, element_pieces, member_pieces}
 use Rattle.values.proofs.Codes.{some-width}

@@ -12,7 +12,7 @@ use Rattle.descriptor.proofs.Sizes.{and-true, both_true}
 use Rattle.descriptor.specs.Width.{width_of}
 use Rattle.descriptor.proofs.CodeKinds.{kind_number}
 use Rattle.descriptor.proofs.Widths.{passes, each, none-past}
-use Rattle.byteorder.specs.Reversal.{number_count}
+use Rattle.byte_order.specs.Reversal.{number_count}
 
 -- a complex number's width is even; a code of numbers has a width; and an enumeration has one number
 test : ℕ → Bool

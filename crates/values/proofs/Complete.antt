@@ -17,7 +17,7 @@ use Rattle.flattened.specs.Order.{Order, big, number_at}
 use Rattle.flattened.specs.Token.{TokenKind, scalar, string, sizes, Token, token_bytes}
 use Rattle.descriptor.specs.Limits.{length_limit}
 use Rattle.flattened.specs.Walk.{token, single, scalar_at, text_at, sizes_at, sizes_fit, product, array_at, follow, repeat, walk_fields, walk, walk_all}
-use Rattle.byteorder.specs.Reversal.{reverse_each, reverse_token, reversed, number_width}
+use Rattle.byte_order.specs.Reversal.{reverse_each, reverse_token, reversed, number_width}
 use Rattle.values.specs.Value.{Value, Values, count, AllBelow, Scalar, Fits, plain, enumeration, quantity, array, cluster, stamp, AllFit, without, element, EachFits, done, member, other, ordered, in_order, flatten, flatten_elements, flatten_members, Here}
 use Rattle.values.specs.Pieces.{pieces_at, element_pieces, member_pieces}
 use Rattle.values.proofs.Places.{here-up-to, here-first, here-second}

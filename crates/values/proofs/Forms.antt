@@ -13,7 +13,7 @@ use Rattle.descriptor.specs.Outcome.{read}
 use Rattle.flattened.specs.Order.{Order, big, little}
 use Rattle.flattened.specs.Token.{Token}
 use Rattle.flattened.specs.Walk.{walked}
-use Rattle.byteorder.specs.Reversal.{reversed}
+use Rattle.byte_order.specs.Reversal.{reversed}
 use Rattle.values.specs.Value.{Value, Fits, other, flatten}
 use Rattle.values.specs.Pieces.{pieces}
 use Rattle.values.proofs.Lengths.{value-length}

@@ -7,7 +7,7 @@ use lib.ListN.{length, length-append}
 use Rattle.descriptor.specs.Tree.{Tree, Forest, nil, cons}
 use Rattle.flattened.specs.Order.{Order}
 use Rattle.values.specs.Value.{Value, Values, Fits, plain, enumeration, quantity, string, array, cluster, stamp, AllFit, without, element, EachFits, done, member, ordered, in_order, flatten, flatten_elements, flatten_members}
-use Rattle.byteorder.specs.Reversal.{number_width}
+use Rattle.byte_order.specs.Reversal.{number_width}
 use Rattle.values.proofs.Numbers.{length-ordered, length-in_order}
 
 -- lists of one length, one after the other

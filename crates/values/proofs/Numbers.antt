@@ -13,7 +13,7 @@ use Rattle.number.proofs.Writing.{length-be_bytes, length-le_bytes}
 use Rattle.number.proofs.Inverse.{be-be_bytes, le_bytes-reverse, le_bytes-le, le-reverse}
 use Rattle.descriptor.specs.Encoding.{Bytes}
 use Rattle.flattened.specs.Order.{Order, big, little, number_at}
-use Rattle.byteorder.specs.Reversal.{reverse_each}
+use Rattle.byte_order.specs.Reversal.{reverse_each}
 use Rattle.encoding.proofs.Slices.{append-apart, slice-take, slice-be, be-slice, bytes-at}
 use Rattle.values.specs.Value.{AllBelow, other, ordered, in_order, Here}
 use Rattle.values.proofs.Places.{here-up-to, here-by, here-none, here-whole, here-first, here-second, here-then}

@@ -10,7 +10,7 @@ use Rattle.descriptor.specs.Encoding.{Bytes}
 use Rattle.descriptor.specs.Width.{width_of}
 use Rattle.flattened.specs.Order.{Order, number_at}
 use Rattle.descriptor.specs.Codes.{is_complex}
-use Rattle.byteorder.specs.Reversal.{number_count, number_width}
+use Rattle.byte_order.specs.Reversal.{number_count, number_width}
 use Rattle.values.specs.Value.{Scalar, in_order}
 use Rattle.values.proofs.Codes.{one_number, halves}
 use Rattle.values.proofs.Numbers.{length-in_order, numbers_at, length-numbers_at, numbers-bound}

@@ -20,7 +20,7 @@ use Rattle.flattened.specs.Order.{Order, number_at}
 use Rattle.descriptor.specs.Limits.{length_limit}
 use Rattle.flattened.specs.Walk.{scalar_at, text_at, sizes_at, sizes_fit, product, array_at, repeat, walk_fields, walk, walk_all}
 use Rattle.values.specs.Value.{Value, numbers, characters, elements, parts, Values, none, also, count, AllBelow, Scalar, Fits, plain, enumeration, quantity, string, array, cluster, stamp, AllFit, without, element, EachFits, done, member, ordered, in_order, flatten, flatten_elements, flatten_members, Here}
-use Rattle.byteorder.specs.Reversal.{number_count, number_width}
+use Rattle.byte_order.specs.Reversal.{number_count, number_width}
 use Rattle.values.proofs.Places.{here-by, here-none, here-then}
 use Rattle.values.proofs.Numbers.{length-ordered, number-stands, numbers_at, length-numbers_at, length-in_order, numbers-stand}
 use Rattle.values.proofs.Scalars.{scalar_numbers, fill-width, scalar-length, scalar-there, enumeration-number}

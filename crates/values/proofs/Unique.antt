@@ -8,7 +8,7 @@ use Rattle.descriptor.specs.Tree.{Tree, Forest, nil, cons}
 use Rattle.encoding.proofs.Slices.{append-apart}
 use Rattle.flattened.specs.Order.{Order}
 use Rattle.values.specs.Value.{Value, numbers, characters, elements, parts, Values, also, count, AllBelow, Scalar, Fits, plain, enumeration, quantity, string, array, cluster, stamp, AllFit, without, element, EachFits, done, member, ordered, in_order, flatten, flatten_elements, flatten_members}
-use Rattle.byteorder.specs.Reversal.{number_width}
+use Rattle.byte_order.specs.Reversal.{number_width}
 use Rattle.values.proofs.Numbers.{length-ordered, ordered-apart, in_order-apart, below_less}
 
 module _ (o : Order) where

@@ -7,7 +7,7 @@ use Rattle.descriptor.specs.Tree.{Name, Pair, empty, items, pairs, text, dimensi
 use Rattle.descriptor.specs.Limits.{length_limit}
 use Rattle.descriptor.specs.Encoding.{Bytes}
 use Rattle.flattened.specs.Order.{Order, big, little}
-use Rattle.byteorder.specs.Reversal.{number_count, number_width}
+use Rattle.byte_order.specs.Reversal.{number_count, number_width}
 
 mutual
   pub data Value : Type 0 where

@@ -10,7 +10,7 @@ use bytes::scan::find;
 
 // What the bytes of a table's cases are: a descriptor; a book; a descriptor and data; a reader or a rig, data, and what the output should hold
 // then.
-#[derive(Drop)]
+#[derive(Clone, Copy)]
 pub enum Cases {
     Descriptors,
     Books,

@@ -2,6 +2,8 @@
 // entries. A line for each: its name; number, input and place; the rows, as (code start size depth count name_place name_length), the
 // code hexadecimal and the others decimal; and of its normal form, whether it has the same bytes and compares equal. Then data, under a
 // descriptor: its name, number, input and place. Then records in a reader's shape, time stamps, and blank books.
+#![tactic(auto)]
+
 mod books;
 mod cases;
 mod data;

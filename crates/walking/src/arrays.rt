@@ -19,7 +19,7 @@ use flattened::progress::Progress;
 use flattened::sizes::{Sizes, size_words};
 
 // How many elements are passed in one step, and their bytes and tokens.
-#[derive(Drop)]
+#[derive(Clone, Copy)]
 pub struct Passed {
     pub count: usize,
     pub bytes: usize,
@@ -28,7 +28,7 @@ pub struct Passed {
 
 // What the front of an array comes to: nothing is left to walk; or so many elements are, from the cursor on, and so many tokens went
 // before them.
-#[derive(Drop)]
+#[derive(Clone, Copy)]
 pub enum Front {
     Over(Progress),
     Rest(usize, Cursor, usize),

@@ -1,4 +1,6 @@
 // The walk of data under a type, and the check of data by it.
+#![tactic(auto)]
+
 pub mod arrays;
 pub mod check;
 pub mod walk;

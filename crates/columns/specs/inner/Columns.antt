@@ -4,8 +4,8 @@ use Rattle.std.specs.Prelude.{◌≡◌, Bool, cond, List, [], ◌∷◌, ◌++�
 use Rattle.descriptor.specs.Tree.{Fields, empty, items, pairs, text, dimensions, members, subtype, Tree, node, Forest, nil, cons}
 use Rattle.flattened.specs.inner.Extent.{extent_of}
 use Rattle.flattened.specs.declared.extent.Extent.TheVariants.{Fixed}
-use Rattle.byteorder.specs.Reversal.{number_count, number_width}
-use Rattle.byteorder.specs.inner.Turning.{turned_at}
+use Rattle.byte_order.specs.Reversal.{number_count, number_width}
+use Rattle.byte_order.specs.inner.Turning.{turned_at}
 
 -- k numbers of w bytes
 unfoldable pub copies : ℕ → ℕ → List ℕ

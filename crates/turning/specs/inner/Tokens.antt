@@ -11,8 +11,8 @@ use Rattle.flattened.specs.Walk.{array_at}
 use Rattle.flattened.specs.inner.Cursor.{cursor}
 use Rattle.flattened.specs.inner.Sizes.{capped_sizes}
 use Rattle.flattened.specs.declared.sizes.Sizes.TheVariants.{Count}
-use Rattle.byteorder.specs.Reversal.{reverse_token}
-use Rattle.byteorder.specs.inner.Turning.{turned_run, Room}
+use Rattle.byte_order.specs.Reversal.{reverse_token}
+use Rattle.byte_order.specs.inner.Turning.{turned_run, Room}
 
 -- tokens, each at its own place of the output
 unfoldable pub turned_tokens : List ℕ → List Token → List ℕ → List ℕ

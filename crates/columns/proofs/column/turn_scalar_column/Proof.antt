@@ -5,7 +5,7 @@ use Prim.Native.Nat.{ℕ, ◌+◌, ◌/◌}
 use native.Mathlib.Omega.{arith}
 use Rattle.columns.specs.inner.Columns.{turned_column}
 use Rattle.columns.proofs.ColumnTurns.{spread-as, halves-columns, whole-column}
-use Rattle.byteorder.proofs.Widths.{complex-halved, real-whole}
+use Rattle.byte_order.proofs.Widths.{complex-halved, real-whole}
 use borrow.Author.Rules.{rules}
 use Rattle.columns.proofs.column.turn_scalar_column.Statement.{statement}
 use Rattle.columns.proofs.column.turn_scalar_column.Tie as tie

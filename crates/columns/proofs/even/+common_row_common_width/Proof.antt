@@ -20,7 +20,7 @@ use Rattle.columns.proofs.even.+common_row_common_width.Lts-common_row as common
 use Rattle.columns.proofs.even.common_width.Reads as common-width
 use Rattle.columns.proofs.even.common_width.Kinds as common-width-kinds
 use Rattle.columns.proofs.even.+common_row_common_width.Lts-common_width as common-width-lts
-use Rattle.byteorder.proofs.scalars.number_width.Reads as number-width-reads
+use Rattle.byte_order.proofs.scalars.number_width.Reads as number-width-reads
 use Rattle.descriptor.proofs.codes.is_compound.Reads as is-compound-reads
 use Rattle.descriptor.proofs.header.code_at.Reads as code-at-reads
 use Rattle.descriptor.proofs.header.size_at.Reads as size-at-reads

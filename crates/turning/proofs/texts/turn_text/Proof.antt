@@ -4,7 +4,7 @@ use mathlib.Core.List.{List}
 use Prim.Native.Nat.{ℕ, ◌+◌}
 use native.Mathlib.Omega.{arith}
 use Rattle.flattened.specs.inner.Order.{order_of}
-use Rattle.byteorder.specs.inner.Turning.{turned_run}
+use Rattle.byte_order.specs.inner.Turning.{turned_run}
 use Rattle.turning.proofs.Pieces.{text-read, text-turned}
 use borrow.Author.Rules.{rules}
 use Rattle.turning.proofs.texts.turn_text.Statement.{statement}

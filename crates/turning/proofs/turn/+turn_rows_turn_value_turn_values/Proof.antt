@@ -35,8 +35,8 @@ use Rattle.turning.proofs.turn.+turn_rows_turn_value_turn_values.Lts-turn_value 
 use Rattle.turning.proofs.turn.turn_values.Reads as turn-values
 use Rattle.turning.proofs.turn.turn_values.Kinds as turn-values-kinds
 use Rattle.turning.proofs.turn.+turn_rows_turn_value_turn_values.Lts-turn_values as turn-values-lts
-use Rattle.byteorder.proofs.scalars.turn_scalar.Reads as turn-scalar-reads
-use Rattle.byteorder.proofs.scalars.turn_scalars.Reads as turn-scalars-reads
+use Rattle.byte_order.proofs.scalars.turn_scalar.Reads as turn-scalar-reads
+use Rattle.byte_order.proofs.scalars.turn_scalars.Reads as turn-scalars-reads
 use Rattle.columns.proofs.even.even_step.Reads as even-step-reads
 use Rattle.columns.proofs.even.turn_even.Reads as turn-even-reads
 use Rattle.turning.proofs.sizes.turn_sizes.Reads as turn-sizes-reads

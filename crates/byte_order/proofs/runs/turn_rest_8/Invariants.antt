@@ -1,0 +1,13 @@
+-- `turn_rest_8` meets its contract. The invariant: with the numbers that are left, the output becomes what is promised. The law over the
+-- width, at 8 bytes.
+use Prim.Native.Nat.{◌-◌}
+use native.Mathlib.Omega.{arith}
+use Rattle.byte_order.proofs.RunTurns.{RunLoop, run-begin, run-next, run_end}
+use borrow.Author.Rules.{rules}
+use Rattle.byte_order.proofs.runs.turn_rest_8.Given as goal
+
+abbrev pub invariant-loop-i : goal.invariant-loop-i
+invariant-loop-i l = RunLoop 8 l.s l.initial.out l.n l.at l.out l.i
+
+abbrev pub decreases-loop-i : goal.decreases-loop-i
+decreases-loop-i l = l.n - l.i

@@ -1,0 +1,13 @@
+-- `turn_run_2` meets its contract. The invariant: with the numbers that are left, the output becomes what is promised. The law over the
+-- width, at 2 bytes.
+use Prim.Native.Nat.{◌-◌}
+use native.Mathlib.Omega.{arith}
+use Rattle.byte_order.proofs.RunTurns.{RunLoop, run-begin, run-next, run_end}
+use borrow.Author.Rules.{rules}
+use Rattle.byte_order.proofs.runs.turn_run_2.Given as goal
+
+abbrev pub invariant-loop-i : goal.invariant-loop-i
+invariant-loop-i l = RunLoop 2 l.s l.initial.out l.n l.at l.out l.i
+
+abbrev pub decreases-loop-i : goal.decreases-loop-i
+decreases-loop-i l = l.n - l.i

@@ -1,4 +1,0 @@
-// Numbers written in the other byte order: one, a row of them, and those of scalars.
-pub mod numbers;
-pub mod runs;
-pub mod scalars;

@@ -1,0 +1,28 @@
+-- The columns of a type and of a row of types. The measure is the depth left, twice, and one more for a row. The invariant: where the types
+-- that are left are kept, all are. Rests on `Keeping`.
+use borrow.Author.Rules.{rules}
+use mathlib.Core.Path.{sym, ap, ◌∙◌}
+use Prim.Native.Nat.{ℕ, ◌+◌, ◌-◌, ◌<◌}
+use native.Mathlib.Omega.{arith}
+use Rattle.descriptor.specs.Codes.{kind_of}
+use Rattle.descriptor.specs.Width.{width_of}
+use Rattle.descriptor.specs.inner.Steps.{is_compound}
+use Rattle.descriptor.proofs.Bodies.{header-room}
+use Rattle.flattened.specs.inner.Order.{order_of}
+use Rattle.flattened.proofs.Cases.{compound-inside, row_inside}
+use Rattle.flattened.proofs.Types.{type-deep}
+use Rattle.elements.proofs.Placing.{roomy-fewer}
+use Rattle.elements.proofs.Keeping.{kept-members, kept-other, ahead-inside, definite-inside, RowLoop, row-begin, next-turn, here-definite, next-least, row_next, row_kept}
+use Rattle.elements.proofs.columns.+columns_of_columns_row.Given as goal
+
+abbrev pub decreases-columns_of : goal.decreases-columns_of
+decreases-columns_of l = l.left + l.left
+
+abbrev pub decreases-columns_row : goal.decreases-columns_row
+decreases-columns_row l = l.left + l.left + 1
+
+abbrev pub invariant-columns_row-loop-i : goal.invariant-columns_row-loop-i
+invariant-columns_row-loop-i l = RowLoop l.d l.k l.start l.left l.initial.front (order_of l.o) l.s l.whole l.from.at l.n l.p l.front l.count l.i
+
+abbrev pub decreases-columns_row-loop-i : goal.decreases-columns_row-loop-i
+decreases-columns_row-loop-i l = l.k - l.i

@@ -1,0 +1,17 @@
+-- `column_around` meets its contract. The invariant: the numbers looked at are below the limit.
+use mathlib.Core.Path.{subst}
+use Prim.Native.Nat.{ℕ, ◌-◌, ◌<◌}
+use native.Mathlib.Omega.{arith}
+use borrow.Author.Rules.{rules}
+use borrow.Author.Tests.{not-false}
+use Rattle.flattened.specs.inner.Order.{order_of}
+use Rattle.flattened.specs.inner.Columns.{ArrivesAt, Across}
+use Rattle.flattened.specs.declared.cursor.Skip.{Skip}
+use Rattle.elements.proofs.Placing.{ColumnLoop, column-begin, column-next}
+use Rattle.elements.proofs.columns.column_around.Given as goal
+
+abbrev pub invariant-loop-count : goal.invariant-loop-count
+invariant-loop-count l = ColumnLoop (order_of l.o) l.s l.front l.before l.after l.initial.next.at l.w l.limit l.n l.next.at l.count
+
+abbrev pub decreases-loop-count : goal.decreases-loop-count
+decreases-loop-count l = l.n - l.count

@@ -1,0 +1,15 @@
+-- `number_2` meets its contract by the law of swapped numbers at its width.
+use native.Mathlib.Omega.{arith}
+use Rattle.flattened.proofs.Swapped.{number-big, number-little}
+use borrow.Author.Rules.{rules}
+use Rattle.flattened.proofs.order.number_2.Goals as goal
+
+pub returns-in-Big : goal.returns-in-Big
+returns-in-Big c =
+    let a = c.args in
+    number-big a.s.now (λ k. omega (arith, c.shared_slice_known-1.given k)) a.o 2 a.at _ _ c.in-Big.is c.little_2-v.ensures c.swap_2.ensures
+
+pub returns-in-Little : goal.returns-in-Little
+returns-in-Little c =
+    let a = c.args in
+    number-little a.s.now (λ k. omega (arith, c.shared_slice_known-1.given k)) a.o 2 a.at _ c.in-Little.is c.little_2-v.ensures

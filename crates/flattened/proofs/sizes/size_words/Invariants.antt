@@ -1,0 +1,16 @@
+-- `size_words` meets its contract. The invariant: the sizes that are left, and the capped product so far, stand for all.
+use borrow.Author.Rules.{rules}
+use mathlib.Core.Path.{sym, ap, ◌∙◌}
+use Prim.Native.Nat.{ℕ, ◌*◌, ◌-◌, min}
+use native.Mathlib.Omega.{arith}
+use Rattle.flattened.specs.inner.Order.{order_of}
+use Rattle.flattened.specs.inner.Sizes.{element_cap}
+use Rattle.flattened.proofs.Steps.{skip-to, skip-cut}
+use Rattle.flattened.proofs.Products.{SizesLoop, sizes_begin, sizes-next, sizes-over, sizes-done, sizes-cut}
+use Rattle.flattened.proofs.sizes.size_words.Given as goal
+
+abbrev pub invariant-loop-i : goal.invariant-loop-i
+invariant-loop-i l = SizesLoop (order_of l.o) l.s l.dims l.at l.n l.i
+
+abbrev pub decreases-loop-i : goal.decreases-loop-i
+decreases-loop-i l = l.dims - l.i

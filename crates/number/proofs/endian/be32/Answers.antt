@@ -1,0 +1,8 @@
+-- `be32` meets its contract: two numbers of two bytes, joined by the split law.
+use native.Mathlib.Omega.{arith}
+use Rattle.number.proofs.Reading.{be-split}
+use borrow.Author.Rules.{rules}
+use Rattle.number.proofs.endian.be32.Goals as goal
+
+pub returns : goal.returns
+returns c = record { eq = omega (arith, be-split c.args.s.now c.args.at 2 2); below = omega arith }

@@ -1,0 +1,32 @@
+-- `counted` meets its contract: the high half moved up by half its range. Rests on `Taking`.
+use Rattle.std.proofs.Common.{ap, ◌∙◌, ⊎_elim, arith, w32, rules}
+use mir.ValLaws.{to_z-of_z}
+use Rattle.timestamp.specs.Difference.{bits_of}
+use Rattle.timestamp.proofs.Taking.{counts-low, counts-high}
+use Rattle.timestamp.proofs.counted.Goals as goal
+
+pub overflow_mul-result : goal.overflow_mul-result
+overflow_mul-result c =
+    let bits = c.bits_of-bits.ensures in
+    ⊎_elim (λ u. record { fits = omega (arith, u.1, u.0.taken) }) (λ u. record { fits = omega (arith, u.1, bits.below) }) c.if-bits-lt2147483648.branch
+
+pub overflow_add-result : goal.overflow_add-result
+overflow_add-result c =
+    let bits = c.bits_of-bits.ensures in
+    ⊎_elim
+    (λ u. record { fits = omega (arith, u.1, u.0.taken, c.bits_of.ensures.below) })
+    (λ u. record { fits = omega (arith, u.1, bits.below, c.bits_of.ensures.below) })
+    c.if-bits-lt2147483648.branch
+
+pub returns : goal.returns
+returns c =
+    let start = c in
+    let bits = c.bits_of-bits in
+    let low = c.bits_of in
+    let high_bits_lem = bits.ensures.eq ∙ ap bits_of (to_z-of_z w32 start.args.high start.ranges.high) in
+    let low_bits = low.ensures.eq ∙ ap bits_of (to_z-of_z w32 start.args.low start.ranges.low) in
+    ⊎_elim
+    (λ u. counts-low start.args.high start.args.low start.ranges.high bits.result _ low.result high_bits_lem low_bits low.ensures.below u.0.taken u.1)
+    (λ u.
+    counts-high start.args.high start.args.low start.ranges.high bits.result _ low.result high_bits_lem bits.ensures.below low_bits low.ensures.below u.0.left u.1)
+    c.if-bits-lt2147483648.branch
