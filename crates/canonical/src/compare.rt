@@ -16,7 +16,7 @@ fn same_run(a: &[u8], b: &[u8], from: usize, to: usize) -> bool
     requires { Both a.now b.now from to }
     ensures { result ≡ same_run a.now b.now from to }
 {
-    check::same(&a[from..to], &b[from..to])
+    byte_runs::same(&a[from..to], &b[from..to])
 }
 
 // Whether a and b hold the same bytes from `start` up to `stop`, but for the reserved bytes of the k descriptors that stand in a from

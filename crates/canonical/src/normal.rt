@@ -48,7 +48,7 @@ pub fn normal_form(d: &[u8], out: &mut [u8]) -> Answer
     if out.len() < n {
         return answered(50, 4, n);
     }
-    bytes::copy(d, out);
+    byte_runs::copy(d, out);
     clear_row(d, out, 1, 0, DEPTH_LIMIT);
     answered(0, 0, n)
 }

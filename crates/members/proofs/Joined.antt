@@ -5,7 +5,7 @@ use Prim.Native.Nat.{ℕ, zero, suc, ◌+◌, ◌-◌, ◌≤◌, ◌<◌}
 use native.Mathlib.Numerals.{add-one}
 use native.Mathlib.Omega.{arith}
 use lib.ListN.{length, get_or, take, drop, length-append, length-take, length-drop}
-use lib.Seq.{slice, length-slice, take_at, drop_at, take-length, drop-length, drop-drop}
+use lib.Seq.{take-length, slice, length-slice, take_at, drop_at, take-length, drop-length, drop-drop}
 use borrow.Rule.Slice.PartMut.{put_mid}
 use Rattle.canonical.proofs.Lists.{part_slice}
 use Rattle.members.specs.inner.Joining.{picked_bytes, Copies}
@@ -104,17 +104,20 @@ module _ (s starts picks : List ℕ) (n : ℕ) (before : List ℕ) (copies : Cop
             omega (arith, length-take (length out - at) (drop at out), length-drop at out, copy-room)
 
         pub copy-again : (part : List ℕ)
-            → part ≡ take (length (take (to - from) (drop from s))) (take (to - from) (drop from s)) ++ drop (length (take (to - from) (drop from s))) (take (length out - at) (drop at out))
+            → part ≡ take (to - from) (drop from s) ++ drop (length (take (to - from) (drop from s))) (take (length out - at) (drop at out))
             → CopyLoop s starts picks n before (put_mid at (length out - at) out part) (at + (to - from)) (j + 1)
         copy-again part ep =
             let bytes : List ℕ = start_bytes s starts (get_or picks j 0) in
             let long : length (take (to - from) (drop from s)) ≡ to - from = ap length part-is ∙ size in
+            let whole =
+                ap (λ (x : List ℕ). x ++ drop (length (take (to - from) (drop from s))) (take (length out - at) (drop at out)))
+                (sym (take-length (take (to - from) (drop from s)))) in
             record {
               most = omega arith;
               end = omega (arith, ap length grown, length-append (picked_bytes s starts picks j) bytes, size, l.end);
               bytes =
                   put_front (picked_bytes s starts picks j) bytes before out at (to - from) l.end (sym size) l.bytes part
-                  (ep ∙ (λ t. take (long t) (part-is t) ++ drop (long t) (take (length out - at) (drop at out))))
+                  (ep ∙ whole ∙ (λ t. take (long t) (part-is t) ++ drop (long t) (take (length out - at) (drop at out))))
                   ∙ ap (λ (x : List ℕ). x ++ drop (at + (to - from)) before) (sym grown);
             }
 

@@ -17,7 +17,7 @@ pub fn copy_picked(s: &[u8], starts: &[u32; 257], picks: &[u8; 256], n: usize, o
         let i = wide(picks[j]);
         let from = position(starts[i]);
         let to = position(starts[i + 1]);
-        bytes::copy(&s[from..to], &mut out[at..]);
+        byte_runs::copy(&s[from..to], &mut out[at..]);
         at += to - from;
         j += 1;
     }

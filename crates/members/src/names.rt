@@ -13,5 +13,5 @@ pub fn same_name(a: &[u8], x: usize, b: &[u8], y: usize) -> bool
     }
     let first = x + number::endian::wide(a[x - 1]);
     let second = y + number::endian::wide(b[y - 1]);
-    check::same(&b[y..second], &a[x..first])
+    byte_runs::same(&b[y..second], &a[x..first])
 }

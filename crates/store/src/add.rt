@@ -18,8 +18,8 @@ fn write_body(s: &mut [u8], at: usize, d: &[u8], x: &[u8])
     ensures { s.new ≡ sets s.old at (d.now ++ x.now) }
 {
     let middle = at + d.len();
-    bytes::copy(d, &mut s[at..]);
-    bytes::copy(x, &mut s[middle..]);
+    byte_runs::copy(d, &mut s[at..]);
+    byte_runs::copy(x, &mut s[middle..]);
 }
 
 // Writes the four numbers of an entry at p.

@@ -22,7 +22,7 @@ pub overflow_mul-i : goal.overflow_mul-i
 overflow_mul-i c = omega arith
 
 pub put_row-requires : goal.put_row-requires
-put_row-requires c = (omega arith, ap length c.loop-i.invariant.1 ∙ laid-length c.args.t1 c.loop-i.i (omega arith) (omega arith))
+put_row-requires c = (omega arith, ap length c.loop-i.invariant.1 ∙ laid-length c.args.rows c.loop-i.i (omega arith) (omega arith))
 
 pub overflow_add-i : goal.overflow_add-i
 overflow_add-i c = omega arith
@@ -32,7 +32,7 @@ loop-i-smaller c = omega arith
 
 pub loop-i-preserved : goal.loop-i-preserved
 loop-i-preserved c =
-    let rows = c.args.t1 in
+    let rows = c.args.rows in
     let at = c.loop-i in
     (omega arith, c.put_row.ensures ∙ laid_more rows at.i (omega arith) (omega arith) at.to at.invariant.1)
 
@@ -40,4 +40,4 @@ pub returns : goal.returns
 returns c =
     let n = c.args.n in
     let end : c.loop-i.i ≡ n = omega arith in
-    c.loop-i.invariant.1 ∙ ap (λ (k : ℕ). laid c.args.t1 k) end
+    c.loop-i.invariant.1 ∙ ap (λ (k : ℕ). laid c.args.rows k) end

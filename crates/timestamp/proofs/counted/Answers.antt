@@ -4,19 +4,17 @@ use mir.ValLaws.{to_z-of_z}
 use Rattle.timestamp.specs.Difference.{bits_of}
 use Rattle.timestamp.proofs.Taking.{counts-low, counts-high}
 use Rattle.timestamp.proofs.counted.Goals as goal
+use Rattle.timestamp.proofs.counted.Goals.{then-bits-lt2147483648, else-bits-lt2147483648}
 
 pub overflow_mul-result : goal.overflow_mul-result
 overflow_mul-result c =
     let bits = c.bits_of-bits.ensures in
-    ⊎_elim (λ u. record { fits = omega (arith, u.1, u.0.taken) }) (λ u. record { fits = omega (arith, u.1, bits.below) }) c.if-bits-lt2147483648.branch
+    (elim c.if-bits-lt2147483648.branch [ then-bits-lt2147483648 w ↦ record { fits = omega (arith, w.from_least-is, w.if-bits-lt2147483648.true) } | else-bits-lt2147483648 w ↦ record { fits = omega (arith, w.from_least-is, bits.below) } ])
 
 pub overflow_add-result : goal.overflow_add-result
 overflow_add-result c =
     let bits = c.bits_of-bits.ensures in
-    ⊎_elim
-    (λ u. record { fits = omega (arith, u.1, u.0.taken, c.bits_of.ensures.below) })
-    (λ u. record { fits = omega (arith, u.1, bits.below, c.bits_of.ensures.below) })
-    c.if-bits-lt2147483648.branch
+    (elim c.if-bits-lt2147483648.branch [ then-bits-lt2147483648 w ↦ record { fits = omega (arith, w.from_least-is, w.if-bits-lt2147483648.true, c.bits_of.ensures.below) } | else-bits-lt2147483648 w ↦ record { fits = omega (arith, w.from_least-is, bits.below, c.bits_of.ensures.below) } ])
 
 pub returns : goal.returns
 returns c =
@@ -25,8 +23,4 @@ returns c =
     let low = c.bits_of in
     let high_bits_lem = bits.ensures.eq ∙ ap bits_of (to_z-of_z w32 start.args.high start.ranges.high) in
     let low_bits = low.ensures.eq ∙ ap bits_of (to_z-of_z w32 start.args.low start.ranges.low) in
-    ⊎_elim
-    (λ u. counts-low start.args.high start.args.low start.ranges.high bits.result _ low.result high_bits_lem low_bits low.ensures.below u.0.taken u.1)
-    (λ u.
-    counts-high start.args.high start.args.low start.ranges.high bits.result _ low.result high_bits_lem bits.ensures.below low_bits low.ensures.below u.0.left u.1)
-    c.if-bits-lt2147483648.branch
+    (elim c.if-bits-lt2147483648.branch [ then-bits-lt2147483648 w ↦ counts-low start.args.high start.args.low start.ranges.high bits.result _ low.result high_bits_lem low_bits low.ensures.below w.if-bits-lt2147483648.true w.from_least-is | else-bits-lt2147483648 w ↦ counts-high start.args.high start.args.low start.ranges.high bits.result _ low.result high_bits_lem bits.ensures.below low_bits low.ensures.below w.if-bits-lt2147483648.false w.from_least-is ])

@@ -19,10 +19,11 @@ columns_of-code_at-code-requires t c = let a = c.args in header-room a.d.now a.p
 
 pub columns_of-scalar_column-requires : goal.columns_of-scalar_column-requires
 columns_of-scalar_column-requires t c =
-    (
-  c.requires.type_stands.here,
-  ((c.width-w.ensures ∙ ap width_of c.code_at-code.ensures, omega (arith, c.if-w-ne0.true)), c.requires.roomy),
-)
+    record {
+      stands = c.requires.type_stands.here;
+      w_value = (c.width-w.ensures ∙ ap width_of c.code_at-code.ensures, omega (arith, c.if-w-ne0.true));
+      roomy = c.requires.roomy;
+    }
 
 pub columns_of-returns-then-w-ne0 : goal.columns_of-returns-then-w-ne0
 columns_of-returns-then-w-ne0 t c = c.scalar_column.ensures

@@ -10,6 +10,7 @@ use Rattle.elements.specs.inner.Largest.{largest}
 use Rattle.flattened.proofs.Judged.{byte-number}
 use Rattle.elements.proofs.Maxima.{apart-here, largest-turn}
 use Rattle.elements.proofs.largest.largest_1.Goals as goal
+use Rattle.elements.proofs.largest.largest_1.Goals.{then-most-v, else-most-v}
 
 pub loop-i-init : goal.loop-i-init
 unfolding largest
@@ -35,7 +36,7 @@ loop-i-preserved c =
     let a = c.args in
     let l = c.loop-i in
     let v = get_or a.s.now (a.at + l.i * a.step) 0 in
-    let m : c.if-most-v.most ≡ max l.most v = let hh = c.if-most-v.branch in ? in
+    let m : c.if-most-v.most ≡ max l.most v = elim c.if-most-v.branch [ then-most-v w ↦ omega arith | else-most-v w ↦ omega arith ] in
     (search rules, largest-turn big a.s.now 1 a.step a.at l.i _ _ _ l.invariant.1 (sym (byte-number big a.s.now (a.at + l.i * a.step))) m)
 
 pub returns : goal.returns

@@ -9,6 +9,7 @@ use Rattle.flattened.specs.inner.Order.{order_of}
 use Rattle.elements.specs.inner.Largest.{largest}
 use Rattle.elements.proofs.Maxima.{apart-here, largest-turn}
 use Rattle.elements.proofs.largest.largest_2.Goals as goal
+use Rattle.elements.proofs.largest.largest_2.Goals.{then-most-v, else-most-v}
 
 pub loop-i-init : goal.loop-i-init
 unfolding largest
@@ -33,7 +34,7 @@ pub loop-i-preserved : goal.loop-i-preserved
 loop-i-preserved c =
     let a = c.args in
     let l = c.loop-i in
-    let m : c.if-most-v.most ≡ max l.most c.number_2-v.result = let hh = c.if-most-v.branch in ? in
+    let m : c.if-most-v.most ≡ max l.most c.number_2-v.result = elim c.if-most-v.branch [ then-most-v w ↦ omega arith | else-most-v w ↦ omega arith ] in
     (search rules, largest-turn (order_of a.o) a.s.now 2 a.step a.at l.i _ _ _ l.invariant.1 c.number_2-v.ensures m)
 
 pub returns : goal.returns

@@ -8,9 +8,9 @@ use borrow.Author.Tests.{not-true, not-false}
 use Prim.Native.Nat.{◌+◌, ◌-◌, ◌≤◌}
 use lib.ListN.{length}
 use Rattle.descriptor.specs.Codes.{kind_of, is_array}
-use Rattle.descriptor.specs.Outcome.{refused, read}
+use Rattle.descriptor.specs.Outcome.{Outcome, refused, read}
 use Rattle.descriptor.specs.inner.Promises.{row_step}
-use Rattle.descriptor.specs.Tree.{Tree, node, count_of, child_count, row_count, forest_rows}
+use Rattle.descriptor.specs.Tree.{Tree, Forest, node, count_of, child_count, row_count, forest_rows}
 use Rattle.descriptor.specs.Table.{length_of_name}
 use Rattle.descriptor.specs.Check.{header_at, fields_at, members_at, tree_at}
 use Rattle.descriptor.specs.inner.Standing.{standing_row}
@@ -25,34 +25,10 @@ use Prim.Native.Nat.{ℕ, ◌<◌}
 use Rattle.validation.proofs.validate.+validate_row.Goals as goal
 use Rattle.validation.proofs.validate.+validate_row.Goals.{then-b-gt0+else-not-w, else-b-gt0}
 
--- the descriptor's children are read, or there are none
-validate-row-inside : (t : ℕ) (c : goal.Joined-b-gt0 t)
-    → Inside
-    (members_at (λ q m. tree_at (c.args.levels - 1) c.args.d.now (is_array (kind_of c.header-h.result.code)) (c.loop-i.p + c.header-h.result.size) q m)
-    (child_count (got count_of child_count (fields_at (kind_of c.header-h.result.code) c.args.d.now c.loop-i.p c.header-h.result.body (c.loop-i.p + c.header-h.result.size)) c.fields-b.result c.fields-b.ensures (not-false _ c.if-not-b.false)).value) c.fields-b.result.next (c.loop-i.rows + 1))
-    (c.loop-i.p + c.header-h.result.size) (c.loop-i.rows + 1) c.if-b-gt0.at c.if-b-gt0.rows
-validate-row-inside t c =
-    let a = c.args in
-    let s = a.d.now in
-    let l = c.loop-i in
-    let h = c.header-h in
-    let hok = not-false _ c.if-not-h.false in
-    let good = h.ensures.good hok in
-    let hg = head-got (header_at s a.levels a.«in_array» a.end l.p l.rows) h.result h.ensures.eq hok in
-    let b = c.fields-b in
-    let fg = got count_of child_count (fields_at (kind_of h.result.code) s l.p h.result.body (l.p + h.result.size)) b.result b.ensures (not-false _ c.if-not-b.false) in
-    let stop = l.p + h.result.size in
-    let fit : stop ≤ length s = omega (arith, good.inside, c.requires.within.inside) in
-    let e = holds_read fg.eq (fields-end s l.p stop fit (kind_of h.result.code) h.result.body good.body (omega (arith, good.body, good.least))) in
-    elim c.if-b-gt0.branch [
-      then-b-gt0+else-not-w u ↦
-    let kids = some-children s (a.levels - 1) (is_array (kind_of h.result.code)) stop (child_count fg.value) b.result.next (l.rows + 1) u.validate_row-w.result fit e.within (u.validate_row-w.ensures ∙ (λ j. row_step s (a.levels - 1) (u.is_array.ensures j) (l.p + h.result.size) (fg.inside j) b.result.next (l.rows + 1))) (not-false _ u.if-not-w.false) in
-    record { forest = kids.forest; eq = kids.eq ∙ ap (λ j. read j kids.forest) (sym u.at-is); count = u.rows-is ∙ kids.count; within = omega (arith, kids.within, u.at-is) }
-    | else-b-gt0 u ↦
-    let none : child_count fg.value ≡ 0 = omega (arith, u.if-b-gt0.false, fg.inside) in
-    let kids = no-children (λ q m. tree_at (a.levels - 1) s (is_array (kind_of h.result.code)) stop q m) stop (child_count fg.value) b.result.next (l.rows + 1) none e.within in
-    record { forest = kids.forest; eq = kids.eq ∙ ap (λ j. read j kids.forest) (sym u.at-is); count = u.rows-is ∙ kids.count; within = omega (arith, kids.within, u.at-is) }
-    ]
+-- children that were read, or none, from where the code goes on
+onward : {o : Outcome Forest} (stop n at rows next count : ℕ) → Inside o stop n at rows → next ≡ at → count ≡ rows → Inside o stop n next count
+onward stop n at rows next count kids place counted =
+    record { forest = kids.forest; eq = kids.eq ∙ ap (λ j. read j kids.forest) (sym place); count = counted ∙ kids.count; within = omega (arith, kids.within, place) }
 
 pub loop-i-init : goal.loop-i-init
 loop-i-init t c = let a = c.args in loop-begin a.d.now a.levels a.«in_array» a.end a.k a.start a.n c.requires.within.from
@@ -161,7 +137,18 @@ rest-m-requires t c =
     let stop = l.p + h.result.size in
     let fit : stop ≤ length s = omega (arith, good.inside, c.requires.within.inside) in
     let fg = got count_of child_count (fields_at (kind_of h.result.code) s l.p h.result.body stop) b.result b.ensures (not-false _ c.if-not-b.false) in
-    let v = validate-row-inside t c in
+    let e = holds_read fg.eq (fields-end s l.p stop fit (kind_of h.result.code) h.result.body good.body (omega (arith, good.body, good.least))) in
+    let v : Inside (members_at (λ q m. tree_at (a.levels - 1) s (is_array (kind_of h.result.code)) stop q m) (child_count fg.value) b.result.next (l.rows + 1)) stop (l.rows + 1) c.if-b-gt0.at c.if-b-gt0.rows =
+      elim c.if-b-gt0.branch [
+        then-b-gt0+else-not-w u ↦
+        onward _ _ _ _ _ _
+        (some-children s (a.levels - 1) (is_array (kind_of h.result.code)) stop (child_count fg.value) b.result.next (l.rows + 1) u.validate_row-w.result fit e.within (u.validate_row-w.ensures ∙ (λ j. row_step s (a.levels - 1) (u.is_array.ensures j) (l.p + h.result.size) (fg.inside j) b.result.next (l.rows + 1))) (not-false _ u.if-not-w.false))
+        u.at-is u.rows-is
+      | else-b-gt0 u ↦
+        let none : child_count fg.value ≡ 0 = omega (arith, u.if-b-gt0.false, fg.inside) in
+        onward _ _ _ _ _ _ (no-children (λ q m. tree_at (a.levels - 1) s (is_array (kind_of h.result.code)) stop q m) stop (child_count fg.value) b.result.next (l.rows + 1) none e.within)
+        u.at-is u.rows-is
+      ] in
     let up = members-standing s (a.levels - 1) (is_array (kind_of h.result.code)) stop (omega (arith, c.requires.levels_le_depth_limit)) fit (child_count fg.value) b.result.next (l.rows + 1) c.if-b-gt0.at v.forest v.eq in
     record {
       within = record { from = v.within; inside = fit; small = c.requires.within.small };
@@ -179,9 +166,20 @@ returns-then-not-m t c =
     let hg = head-got (header_at s a.levels a.«in_array» a.end l.p l.rows) h.result h.ensures.eq hok in
     let b = c.fields-b in
     let fg = got count_of child_count (fields_at (kind_of h.result.code) s l.p h.result.body (l.p + h.result.size)) b.result b.ensures (not-false _ c.if-not-b.false) in
-    let v = validate-row-inside t c.before.before in
     let stop = l.p + h.result.size in
     let fit : stop ≤ length s = omega (arith, good.inside, c.requires.within.inside) in
+    let e = holds_read fg.eq (fields-end s l.p stop fit (kind_of h.result.code) h.result.body good.body (omega (arith, good.body, good.least))) in
+    let v : Inside (members_at (λ q m. tree_at (a.levels - 1) s (is_array (kind_of h.result.code)) stop q m) (child_count fg.value) b.result.next (l.rows + 1)) stop (l.rows + 1) c.if-b-gt0.at c.if-b-gt0.rows =
+      elim c.if-b-gt0.branch [
+        then-b-gt0+else-not-w u ↦
+        onward _ _ _ _ _ _
+        (some-children s (a.levels - 1) (is_array (kind_of h.result.code)) stop (child_count fg.value) b.result.next (l.rows + 1) u.validate_row-w.result fit e.within (u.validate_row-w.ensures ∙ (λ j. row_step s (a.levels - 1) (u.is_array.ensures j) (l.p + h.result.size) (fg.inside j) b.result.next (l.rows + 1))) (not-false _ u.if-not-w.false))
+        u.at-is u.rows-is
+      | else-b-gt0 u ↦
+        let none : child_count fg.value ≡ 0 = omega (arith, u.if-b-gt0.false, fg.inside) in
+        onward _ _ _ _ _ _ (no-children (λ q m. tree_at (a.levels - 1) s (is_array (kind_of h.result.code)) stop q m) stop (child_count fg.value) b.result.next (l.rows + 1) none e.within)
+        u.at-is u.rows-is
+      ] in
     let up = members-standing s (a.levels - 1) (is_array (kind_of h.result.code)) stop (omega (arith, c.requires.levels_le_depth_limit)) fit (child_count fg.value) b.result.next (l.rows + 1) c.if-b-gt0.at v.forest v.eq in
     let fits = inside-same s (kind_of h.result.code) (child_count fg.value) b.result.next c.if-b-gt0.at v.forest (λ i. stamp-one s (kind_of h.result.code) l.p h.result.body stop b.result.next fg.value i fg.eq) up in
     let bad = lost length_of_name (λ _. 0) (rest_at (kind_of h.result.code) s l.p b.result.next (l.p + h.result.size) c.if-b-gt0.at) c.rest-m.result c.rest-m.ensures (not-true _ c.if-not-m.true) in
@@ -205,10 +203,21 @@ loop-i-preserved t c =
     let hg = head-got (header_at s a.levels a.«in_array» a.end l.p l.rows) h.result h.ensures.eq hok in
     let b = c.fields-b in
     let fg = got count_of child_count (fields_at (kind_of h.result.code) s l.p h.result.body (l.p + h.result.size)) b.result b.ensures (not-false _ c.if-not-b.false) in
-    let v = validate-row-inside t c.before.before in
-    let m = c.rest-m in
     let stop = l.p + h.result.size in
     let fit : stop ≤ length s = omega (arith, good.inside, c.requires.within.inside) in
+    let e = holds_read fg.eq (fields-end s l.p stop fit (kind_of h.result.code) h.result.body good.body (omega (arith, good.body, good.least))) in
+    let v : Inside (members_at (λ q m. tree_at (a.levels - 1) s (is_array (kind_of h.result.code)) stop q m) (child_count fg.value) b.result.next (l.rows + 1)) stop (l.rows + 1) c.if-b-gt0.at c.if-b-gt0.rows =
+      elim c.if-b-gt0.branch [
+        then-b-gt0+else-not-w u ↦
+        onward _ _ _ _ _ _
+        (some-children s (a.levels - 1) (is_array (kind_of h.result.code)) stop (child_count fg.value) b.result.next (l.rows + 1) u.validate_row-w.result fit e.within (u.validate_row-w.ensures ∙ (λ j. row_step s (a.levels - 1) (u.is_array.ensures j) (l.p + h.result.size) (fg.inside j) b.result.next (l.rows + 1))) (not-false _ u.if-not-w.false))
+        u.at-is u.rows-is
+      | else-b-gt0 u ↦
+        let none : child_count fg.value ≡ 0 = omega (arith, u.if-b-gt0.false, fg.inside) in
+        onward _ _ _ _ _ _ (no-children (λ q m. tree_at (a.levels - 1) s (is_array (kind_of h.result.code)) stop q m) stop (child_count fg.value) b.result.next (l.rows + 1) none e.within)
+        u.at-is u.rows-is
+      ] in
+    let m = c.rest-m in
     let up = members-standing s (a.levels - 1) (is_array (kind_of h.result.code)) stop (omega (arith, c.requires.levels_le_depth_limit)) fit (child_count fg.value) b.result.next (l.rows + 1) c.if-b-gt0.at v.forest v.eq in
     let fits = inside-same s (kind_of h.result.code) (child_count fg.value) b.result.next c.if-b-gt0.at v.forest (λ i. stamp-one s (kind_of h.result.code) l.p h.result.body stop b.result.next fg.value i fg.eq) up in
     let mg = got length_of_name (λ _. 0) (rest_at (kind_of h.result.code) s l.p b.result.next stop c.if-b-gt0.at) m.result m.ensures (not-false _ c.if-not-m.false) in

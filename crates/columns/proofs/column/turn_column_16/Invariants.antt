@@ -1,0 +1,13 @@
+-- `turn_column_16` meets its contract. The invariant: with the numbers that are left, the output becomes what is promised. The law over
+-- the width, at 16 bytes.
+use Prim.Native.Nat.{◌-◌}
+use native.Mathlib.Omega.{arith}
+use Rattle.columns.proofs.ColumnTurns.{ColumnLoop, column-begin, column-here, column-next, column-end}
+use borrow.Author.Rules.{rules}
+use Rattle.columns.proofs.column.turn_column_16.Given as goal
+
+abbrev pub invariant-loop-i : goal.invariant-loop-i
+invariant-loop-i l = ColumnLoop 16 l.s l.initial.out l.step l.n l.at l.out l.p l.i
+
+abbrev pub decreases-loop-i : goal.decreases-loop-i
+decreases-loop-i l = l.n - l.i

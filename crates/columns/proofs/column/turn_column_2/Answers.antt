@@ -1,0 +1,36 @@
+-- The answers to the goals of `turn_column_2`.
+use Prim.Native.Nat.{◌-◌}
+use native.Mathlib.Omega.{arith}
+use Rattle.columns.proofs.ColumnTurns.{ColumnLoop, column-begin, column-here, column-next, column-end}
+use borrow.Author.Rules.{rules}
+use Rattle.columns.proofs.column.turn_column_2.Goals as goal
+
+pub loop-i-init : goal.loop-i-init
+loop-i-init c = let a = c.args in column-begin 2 a.s.now a.out.now a.step a.n a.at c.requires
+
+pub turn_number_2-requires : goal.turn_number_2-requires
+turn_number_2-requires c =
+    let a = c.args in
+    let l = c.loop-i in
+    column-here 2 a.s.now a.out.now a.step a.n a.at l.out l.p l.i l.invariant c.loop-i-test.true
+
+pub overflow_add-p : goal.overflow_add-p
+overflow_add-p c =
+    let a = c.args in
+    let l = c.loop-i in
+    omega (arith, (column-here 2 a.s.now a.out.now a.step a.n a.at l.out l.p l.i l.invariant c.loop-i-test.true).inside, l.invariant.left.near)
+
+pub loop-i-preserved : goal.loop-i-preserved
+loop-i-preserved c =
+    let a = c.args in
+    let l = c.loop-i in
+    column-next 2 a.s.now a.out.now a.step a.n a.at l.out l.p l.i l.invariant c.loop-i-test.true _ c.turn_number_2.ensures
+
+pub shape_of-out : goal.shape_of-out
+shape_of-out c = c.loop-i.invariant.long
+
+pub returns : goal.returns
+returns c =
+    let a = c.args in
+    let l = c.loop-i in
+    column-end 2 a.s.now a.out.now a.step a.n a.at l.out l.p l.i l.invariant c.loop-i-test.false

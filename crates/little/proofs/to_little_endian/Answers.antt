@@ -1,0 +1,8 @@
+-- `to_little_endian` is `turn_data` in its order.
+use Rattle.flattened.specs.inner.Order.{order_of}
+use borrow.Author.Rules.{rules}
+use Rattle.little.proofs.to_little_endian.Goals as goal
+
+pub returns : goal.returns
+unfolding order_of
+returns c = c.turn_data.ensures
