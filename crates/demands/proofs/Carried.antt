@@ -10,7 +10,7 @@ use Rattle.descriptor.specs.Tree.{Tree, node, Forest, nil, cons, members}
 use Rattle.descriptor.proofs.Outcomes.{holds_read}
 use Rattle.flattened.specs.Order.{big}
 use Rattle.flattened.specs.Token.{Token, joined}
-use Rattle.values.specs.Value.{Value, parts, Values, none, also, Fits, cluster, EachFits, done, member, flatten, flatten_members, Data, Here}
+use Rattle.values.specs.Value.{Value, numbers, characters, parts, elements, Values, none, also, Fits, cluster, EachFits, done, member, flatten, flatten_members, Data, Here}
 use Rattle.values.proofs.Places.{here-whole, here-first, here-second, here-up-to}
 use Rattle.values.proofs.Complete.{value-walks}
 use Rattle.demands.proofs.Shape.{Rig, FoundOnce, Gives, first, after, Gets, nothing, more}
@@ -40,12 +40,14 @@ module _ (s : List ℕ) where
   gives-holding : {t : Tree} {ts : List Token} {f : Forest} {at : ℕ} → Gives s t ts f at → (vs : Values) → EachFits f vs → Here s at (flatten_members big f vs)
       → Holding t ts f vs
   unfolding flatten
+  gives-holding (first e) none g h = elim g [ ]
   gives-holding (first {f = f} {at = at} {stop = stop} e) (also v vs) (member g gs) h =
       let x : List ℕ = flatten big _ v in
       let there = here-first s at x (flatten_members big f vs) h in
       let end : stop ≡ at + length x = same_end (value-walks big s g at there).walks e in
       let over = holds_read e (goes-walk s big _ at (omega (arith, there.within))) in
       record { value = v; fits = g; has = here; bytes = over.bytes ∙ here-up-to s at stop x there end }
+  gives-holding (after e rest) none g h = elim g [ ]
   gives-holding (after {t = u} {f = f} {at = at} {next = q} e rest) (also v vs) (member g gs) h =
       let x : List ℕ = flatten big u v in
       let there = here-first s at x (flatten_members big f vs) h in
@@ -91,4 +93,7 @@ rig-values w s f rig y = of rig.cluster.described.tree rig.cluster.top y.value y
         taken : (v : Value) → Fits (node rig.cluster.code (members rig.cluster.count) f rig.cluster.name) v
             → s ≡ flatten big (node rig.cluster.code (members rig.cluster.count) f rig.cluster.name) v
             → (vs : Values) × EachFits f vs × (s ≡ flatten_members big f vs)
+        taken (numbers ns) g e = elim g [ ]
+        taken (characters cs) g e = elim g [ ]
+        taken (elements ns vs) g e = elim g [ ]
         taken (parts vs) (cluster gs) e = (vs, gs, e)

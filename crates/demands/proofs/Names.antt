@@ -122,6 +122,7 @@ seen-counted before seen old t y e = record { same = λ x. rw e (go x (same_char
 pub bad-refused : (g before : Forest) (seen : List (List ℕ)) (j place : ℕ) → Seen before seen → FirstBad before j g place
     → reader_names seen j g ≡ refused 40 place
 unfolding reader_names NonEmpty
+bad-refused nil before seen j place old h = elim h [ ]
 bad-refused (cons (node c b f unnamed) g) before seen j place old (bad h) = refl
 bad-refused (cons (node c b f unnamed) g) before seen j place old (later n h) = absurd (n (nameless (λ x. x)))
 bad-refused (cons (node c b f (named [])) g) before seen j place old (bad h) = refl

@@ -8,7 +8,7 @@ use borrow.Author.Tests.{leb-true, le-leb, lt-leb, lt-ltb, le-ltb}
 use borrow.Rule.Slice.PartMut.{put_mid}
 use lib.Dec.{leb, ltb}
 use lib.ListN.{length, take, drop, take-append-drop}
-use lib.Seq.{sets, sets-eq, length-sets, length-take-le}
+use lib.Seq.{take-length, sets, sets-eq, length-sets, length-take-le}
 use Rattle.number.specs.Endian.{be, be_bytes}
 use Rattle.number.proofs.Writing.{length-be_bytes, sets-append}
 use Rattle.descriptor.specs.Limits.{descriptor_limit, data_limit}
@@ -41,16 +41,17 @@ use Rattle.store.proofs.Identified.{descriptor-denied, data-denied}
 use Rattle.store.proofs.Asked.{it, refused-so, read-so, asked-read, asked-count, blanks-so, blanks-count}
 
 -- bytes that were copied to a place
-copied : (s d part : List ℕ) (at : ℕ) → at + length d ≤ length s → part ≡ take (length d) d ++ drop (length d) (take (length s - at) (drop at s))
+copied : (s d part : List ℕ) (at : ℕ) → at + length d ≤ length s → part ≡ d ++ drop (length d) (take (length s - at) (drop at s))
     → put_mid at (length s - at) s part ≡ sets s at d
 copied s d part at fits ep =
-    put_front (take at s) d s s at (length d) (sym (length-take-le at s (omega arith))) refl (sym (take-append-drop at s)) part ep
+    put_front (take at s) d s s at (length d) (sym (length-take-le at s (omega arith))) refl (sym (take-append-drop at s)) part
+    (ep ∙ ap (λ (l : List ℕ). l ++ drop (length d) (take (length s - at) (drop at s))) (sym (take-length d)))
     ∙ sym (sets-eq d s at fits)
 
 -- a descriptor and its data
 pub body-copied : (s d x : List ℕ) (at middle : ℕ) → middle ≡ at + length d → at + (length d + length x) ≤ length s → (part : List ℕ)
-    → part ≡ take (length d) d ++ drop (length d) (take (length s - at) (drop at s)) → (t : List ℕ) → t ≡ put_mid at (length s - at) s part → (other : List ℕ)
-    → other ≡ take (length x) x ++ drop (length x) (take (length t - middle) (drop middle t)) → put_mid middle (length t - middle) t other ≡ sets s at (d ++ x)
+    → part ≡ d ++ drop (length d) (take (length s - at) (drop at s)) → (t : List ℕ) → t ≡ put_mid at (length s - at) s part → (other : List ℕ)
+    → other ≡ x ++ drop (length x) (take (length t - middle) (drop middle t)) → put_mid middle (length t - middle) t other ≡ sets s at (d ++ x)
 body-copied s d x at middle em fits part ep t et other eo =
     let first : t ≡ sets s at d = et ∙ copied s d part at (omega arith) ep in
     let long : length t ≡ length s = ap length first ∙ length-sets s at d in

@@ -1,0 +1,14 @@
+-- `is_zero` asks for the largest of the bytes. Rests on `Zeros`.
+use native.Mathlib.Omega.{arith}
+use borrow.Author.Rules.{rules}
+use Rattle.canonical.proofs.Lists.{bytes_of}
+use Rattle.flattened.specs.inner.Order.{order_of}
+use Rattle.store.proofs.Zeros.{zeros-so}
+use Rattle.store.proofs.unused.is_zero.Goals as goal
+
+pub returns : goal.returns
+unfolding order_of
+returns c =
+    let b = c in
+    let s = b.args.s.now in
+    zeros-so s (bytes_of s (λ n. omega (arith, c.shared_slice_known-1.given n))) b.args.from b.args.size b.requires _ c.largest.ensures
