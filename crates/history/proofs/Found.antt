@@ -89,12 +89,12 @@ pub record NoneHas (id : ℕ) (rs : List Blank) : Type 0 where
 -- what an identifier that is none's comes to
 pub none-exactly : (id : ℕ) (rs : List Blank) → (holds_blank id rs ≡ false) ↔ NoneHas id rs
 unfolding identifiers
-none-exactly id rs = (λ h. record { none = λ k r x e. apart k rs h r x e }, λ h. of h (search-for id rs))
+none-exactly id rs = (λ h. record { none = λ k r x e. apart r k rs h x e }, λ h. of h (search-for id rs))
   where
-    apart : (k : ℕ) (qs : List Blank) → holds_blank id qs ≡ false → (r : Blank) → IsEntry r k qs → r.identifier ≢ id
-    apart k qs h r (here {rs = rest}) e =
+    apart : (r : Blank) (k : ℕ) (qs : List Blank) → holds_blank id qs ≡ false → IsEntry r k qs → r.identifier ≢ id
+    apart r k qs h (here {rs = rest}) e =
         impossible (sym (not-one id r.identifier (identifiers rest) h).0 ∙ eq-eqb r.identifier id e)
-    apart k qs h r (further {k = j} {q = q} {rs = rest} x) e = apart j rest (not-one id q.identifier (identifiers rest) h).1 r x e
+    apart r k qs h (further {k = j} {q = q} {rs = rest} x) e = apart r j rest (not-one id q.identifier (identifiers rest) h).1 x e
 
     of : NoneHas id rs → Search id rs → holds_blank id rs ≡ false
     of h (missing e) = e

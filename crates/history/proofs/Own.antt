@@ -49,6 +49,7 @@ most low high n h = leb-true n high (and-true (leb low n) (leb n high) h).1
 walk-below : {n i : ℕ} → OneOf (of_walk []) n i → n ≤ 25
 walk-below {n} (here h) = let few : n ≤ 23 = most 20 23 n h in omega arith
 walk-below {n} (further (here h)) = most 25 25 n h
+walk-below (further (further h)) = elim h [ ]
 
 -- 41, "rig's top is no cluster", has place 0
 writer-place : (t : Tree) (s : List ℕ) (q : ℕ) (ts : List Token) → walk big t s 0 ≡ read q ts → Refuses (λ number place. place ≡ 0) (writer_members t s)
@@ -131,6 +132,7 @@ module _ (d x : List ℕ) (number input place : ℕ) (e : identified d x ≡ den
       of {n} (further (further (here h))) = above 25 25 n h (omega arith)
       of {n} (further (further (further (here h)))) = above 41 41 n h (omega arith)
       of {n} (further (further (further (further (here h))))) = above 42 44 n h (omega arith)
+      of (further (further (further (further (further h))))) = elim h [ ]
 
   -- "41 .. 0": input 1, place 0
   pub own-41 : number ≡ 41 → (input ≡ 1) × (place ≡ 0)
@@ -143,6 +145,7 @@ module _ (d x : List ℕ) (number input place : ℕ) (e : identified d x ≡ den
       of {n} (further (further (here h))) g = absurd (omega (arith, most 25 25 n h))
       of {n} (further (further (further (here h)))) g = refl
       of {n} (further (further (further (further (here h))))) g = absurd (omega (arith, least 42 44 n h))
+      of (further (further (further (further (further h))))) g = elim h [ ]
 
   -- "42, 43, 44 .. reader's member", of which the shape has one: input 2, place 0; none is higher
   pub own-member : 42 ≤ number → (number ≤ 44) × (input ≡ 2) × (place ≡ 0)
@@ -157,3 +160,4 @@ module _ (d x : List ℕ) (number input place : ℕ) (e : identified d x ≡ den
       of {n} (further (further (here h))) g = absurd (omega (arith, most 25 25 n h))
       of {n} (further (further (further (here h)))) g = absurd (omega (arith, most 41 41 n h))
       of {n} (further (further (further (further (here h))))) g = (most 42 44 n h, refl)
+      of (further (further (further (further (further h))))) g = elim h [ ]
