@@ -2,15 +2,14 @@
 use mathlib.Core.Path.{◌≡◌, refl, ap, sym, ◌∙◌}
 use mathlib.Core.Bool.{Bool, true, false}
 use mathlib.Core.List.{List}
-use Prim.Native.Nat.{ℕ, ◌+◌, ◌-◌, ◌*◌, ◌%◌, ◌≤◌, ◌<◌}
+use Prim.Native.Nat.{ℕ, ◌+◌, ◌-◌, ◌*◌, ◌%◌, ◌≤◌}
 use native.Mathlib.Omega.{arith}
-use borrow.Author.Tests.{leb-true}
 use lib.Dec.{leb, eqb}
 use lib.ListN.{length}
 use Rattle.number.specs.Endian.{be}
 use Rattle.descriptor.specs.Limits.{count_limit, pair_limit, dimension_limit}
-use Rattle.descriptor.specs.Codes.{Kind, plain, enumeration, quantity, string, array, cluster, stamp, unknown, kind_of, is_carried}
-use Rattle.descriptor.specs.Header.{header_size, body_at, size_in, code_in}
+use Rattle.descriptor.specs.Codes.{Kind, plain, enumeration, quantity, string, array, cluster, stamp, unknown, kind_of}
+use Rattle.descriptor.specs.Header.{body_at, code_in}
 use Rattle.descriptor.specs.Tree.{Name, Fields, empty, items, pairs, text, dimensions, members, subtype, Tree, node, Forest, count_of, child_count, inside_at, items_size, fields_size}
 use Rattle.descriptor.specs.Stamp.{stamp_subtype}
 use Rattle.descriptor.specs.Outcome.{Outcome, refused, read}

@@ -1,18 +1,18 @@
 -- From the steps of the check to its answer: a refusal and its place, or the table of the tree. Rests on `Standing` and `Places`.
 use mathlib.Core.Path.{◌≡◌, refl, ap, sym, subst, ◌∙◌}
-use mathlib.Core.Bool.{Bool, true, false}
-use mathlib.Core.List.{List, [], ◌∷◌, ◌++◌, append-nil}
-use Prim.Native.Nat.{ℕ, zero, suc, ◌+◌, ◌-◌, ◌≤◌, ◌<◌}
+use mathlib.Core.Bool.{Bool, false}
+use mathlib.Core.List.{List, ◌++◌, append-nil}
+use Prim.Native.Nat.{ℕ, zero, suc, ◌+◌, ◌-◌, ◌≤◌}
 use native.Mathlib.Nat.{sub-zero, zero-sub, suc-sub-suc}
 use native.Mathlib.Omega.{arith}
 use lib.ListN.{length, replicate, drop, length-replicate}
 use lib.Seq.{sets, sets-eq}
 use Rattle.descriptor.specs.Limits.{descriptor_limit, row_limit, depth_limit}
 use Rattle.descriptor.specs.Codes.{kind_of, is_array}
-use Rattle.descriptor.specs.Tree.{Tree, node, Forest, nil, cons, child_count, row_count, forest_rows, height, forest_height}
+use Rattle.descriptor.specs.Tree.{Tree, Forest, nil, cons, child_count, row_count, forest_rows, forest_height}
 use Rattle.descriptor.specs.Outcome.{Outcome, refused, read}
 use Rattle.descriptor.specs.Stamp.{inside_fits}
-use Rattle.descriptor.specs.Check.{Header, header_at, fields_at, members_at, name_at, node_at, tree_at, checked}
+use Rattle.descriptor.specs.Check.{fields_at, members_at, name_at, node_at, tree_at, checked}
 use Rattle.descriptor.specs.Table.{rows_of, forest_rows_of, zero_row, table_of}
 use Rattle.descriptor.specs.Answers.{refusal, accepted, descriptor_check, with_table}
 use Rattle.descriptor.specs.inner.Standing.{standing, standing_row, is_read, forest_of}
@@ -21,13 +21,12 @@ use Rattle.descriptor.specs.inner.Steps.{counted}
 use Rattle.descriptor.specs.declared.step.Step.{Step}
 use Rattle.descriptor.specs.declared.answer.Row.{Row}
 use Rattle.descriptor.specs.declared.answer.Answer.{Answer}
-use Rattle.descriptor.specs.declared.answer.Checked.{Checked}
 use Rattle.descriptor.specs.inner.Filling.{Table}
 use Rattle.descriptor.proofs.Outcomes.{Holds, found, holds_read, holds-require, holds-and_then, holds-self}
 use Rattle.descriptor.proofs.Sizes.{header-fits}
 use Rattle.descriptor.proofs.Rows.{rows-length}
 use Rattle.descriptor.proofs.Standing.{accepted-standing, standing-low}
-use Rattle.descriptor.proofs.Steps.{got, lost}
+use Rattle.descriptor.proofs.Steps.{lost}
 use Rattle.descriptor.proofs.Places.{refused-place}
 
 -- what the check of s came to

@@ -4,7 +4,6 @@ use mathlib.Core.Bool.{Bool, true, false}
 use mathlib.Core.List.{List}
 use Prim.Native.Nat.{ℕ, ◌+◌}
 use lib.Dec.{leb, eqb}
-use lib.ListN.{length}
 use Rattle.descriptor.specs.Limits.{count_limit, pair_limit, dimension_limit}
 use Rattle.descriptor.specs.Codes.{plain, enumeration, quantity, string, array, cluster, stamp, unknown}
 use Rattle.descriptor.specs.Outcome.{Outcome, refused, read, and_then, require}

@@ -1,19 +1,19 @@
 -- Filling the table descriptor by descriptor: the rows of the first, then those of the others after them. Rests on `Standing`.
 use mathlib.Core.Path.{◌≡◌, refl, ap, sym, subst, ◌∙◌}
-use mathlib.Core.Bool.{Bool, true, false, cond, ◌||◌}
-use mathlib.Core.List.{List, [], ◌∷◌, ◌++◌}
-use Prim.Native.Nat.{ℕ, zero, suc, ◌+◌, ◌-◌, ◌*◌, ◌%◌, ◌<◌, ◌≤◌}
+use mathlib.Core.Bool.{true, cond, ◌||◌}
+use mathlib.Core.List.{List, [], ◌∷◌}
+use Prim.Native.Nat.{ℕ, suc, ◌+◌, ◌-◌, ◌%◌, ◌<◌, ◌≤◌}
 use native.Mathlib.Numerals.{add-one}
 use native.Mathlib.Omega.{arith}
-use borrow.Author.Tests.{eq-eqb, ne_eqb, eqb-true, eqb-false}
-use lib.Dec.{leb, ltb, eqb}
-use lib.ListN.{length, get_or, set, length-append}
+use borrow.Author.Tests.{eqb-true}
+use lib.Dec.{leb, eqb}
+use lib.ListN.{length, get_or, set}
 use lib.Seq.{slice, sets, set_comm, length-slice}
 use Rattle.number.proofs.Writing.{sets-append}
 use Rattle.descriptor.specs.Limits.{row_limit, depth_limit, count_limit, pair_limit, dimension_limit}
 use Rattle.descriptor.specs.Codes.{Kind, plain, enumeration, quantity, string, array, cluster, stamp, unknown, kind_of}
 use Rattle.descriptor.specs.Header.{body_at, size_in, code_in}
-use Rattle.descriptor.specs.Tree.{Name, unnamed, named, Fields, empty, items, pairs, text, dimensions, members, inside_at, Tree, node, Forest, nil, cons, child_count, count_of, fields_size, tree_size, forest_size, row_count, forest_rows, height, forest_height}
+use Rattle.descriptor.specs.Tree.{Name, Fields, inside_at, Tree, node, Forest, nil, cons, child_count, count_of, tree_size, forest_size, row_count, forest_rows, forest_height}
 use Rattle.number.specs.Endian.{be}
 use Rattle.descriptor.specs.Stamp.{stamp_subtype}
 use Rattle.descriptor.specs.Outcome.{Outcome, refused, read}

@@ -11,8 +11,8 @@ use lib.ListN.{length}
 use Rattle.descriptor.specs.Limits.{descriptor_limit, row_limit, depth_limit, high_bit}
 use Rattle.descriptor.specs.Codes.{kind_of, is_carried, is_array}
 use Rattle.descriptor.specs.Header.{header_size, body_at, size_in, code_in}
-use Rattle.descriptor.specs.Tree.{Name, Fields, Tree, node, Forest, nil, cons, child_count, inside_at, fields_size, tree_size, forest_size, forest_length, row_count, height, forest_height}
-use Rattle.descriptor.specs.Outcome.{Outcome, refused, read}
+use Rattle.descriptor.specs.Tree.{Name, Fields, Tree, node, Forest, nil, cons, child_count, inside_at, tree_size, forest_size, forest_length, row_count, height, forest_height}
+use Rattle.descriptor.specs.Outcome.{Outcome, read}
 use Rattle.descriptor.specs.Stamp.{inside_fits}
 use Rattle.descriptor.specs.Check.{Header, header_at, fields_at, members_at, name_at, node_at, tree_at, checked}
 use Rattle.descriptor.specs.inner.Standing.{standing, standing_row}

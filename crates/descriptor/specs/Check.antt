@@ -2,7 +2,7 @@
 -- array, then the body: count word missing 8, count 9, the rest missing 8, contents 10. .. Then the children, then 11. Last 12."
 -- The descriptor at fault starts at p, which is the place of 2, 3, 4, 6 and 7; those of 5 and 8 to 11 are document 02's, CR 3. `end` is its
 -- parent's end and `stop` its own.
-use Rattle.std.specs.Prelude.{Bool, true, false, cond, not, ◌&&◌, ◌||◌, List, [], ◌∷◌, ℕ, zero, suc, ◌+◌, ◌-◌, ◌*◌, ◌%◌, length, get_or, leb, ltb, eqb}
+use Rattle.std.specs.Prelude.{Bool, false, cond, not, ◌&&◌, ◌||◌, List, [], ◌∷◌, ℕ, zero, suc, ◌+◌, ◌-◌, ◌*◌, ◌%◌, length, get_or, leb, ltb, eqb}
 use Rattle.std.proofs.Math.Seq.{slice}
 use Rattle.number.specs.Endian.{be}
 use Rattle.descriptor.specs.Limits.{descriptor_limit, row_limit, depth_limit, dimension_limit, pair_limit, base_limit, count_limit, high_bit, fixed_word}

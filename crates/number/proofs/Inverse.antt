@@ -1,7 +1,7 @@
 -- Reading and writing undo each other, and the two byte orders are each other's reversal, at any width.
 use mathlib.Core.Path.{◌≡◌, refl, sym, ap, ap₂, ◌∙◌}
 use Prim.Native.Nat.{ℕ, zero, suc, ◌+◌, ◌*◌, ◌/◌, ◌%◌, ◌^◌, ◌<◌, ◌≤◌}
-use native.Mathlib.Nat.{add-zero, zero-add, pow-zero, pow-suc, one-le-pow, mul_assoc, mod-one, mod-lt, mod-eq_of_lt, div-add-mod', mul-add-mod_self_right}
+use native.Mathlib.Nat.{zero-add, pow-zero, pow-suc, one-le-pow, mul_assoc, mod-one, mod-lt, mod-eq_of_lt, div-add-mod', mul-add-mod_self_right}
 use native.Mathlib.Numerals.{add-one}
 use native.Mathlib.Omega.{arith}
 use mathlib.Core.List.{List, [], ◌∷◌, ◌++◌, reverse, reverse-cons, reverse-append, reverse-reverse}

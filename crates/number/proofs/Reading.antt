@@ -1,5 +1,5 @@
 -- Laws of the number that bytes stand for, each over the width. They rest on the definitions of `Endian` alone.
-use mathlib.Core.Path.{◌≡◌, refl, sym, ap, ◌∙◌}
+use mathlib.Core.Path.{◌≡◌, sym, ap, ◌∙◌}
 use Prim.Native.Nat.{ℕ, zero, suc, ◌+◌, ◌*◌, ◌^◌, ◌-◌, ◌<◌, ◌≤◌}
 use native.Mathlib.Nat.{pow-suc, pow-zero, pow-le-pow_right, add-zero, add_assoc, mul-one, mul_assoc}
 use native.Mathlib.Numerals.{add-one}

@@ -1,5 +1,5 @@
 -- How the table of accepted bytes is filled: what the filling needs, and what the table is then.
-use Rattle.std.specs.Prelude.{◌≡◌, Bool, true, cond, List, ℕ, ◌+◌, ◌-◌, ◌^◌, ◌≤◌, ◌<◌, length, get_or, replicate, eqb}
+use Rattle.std.specs.Prelude.{◌≡◌, true, cond, List, ℕ, ◌+◌, ◌-◌, ◌^◌, ◌≤◌, ◌<◌, length, get_or, replicate, eqb}
 use Rattle.std.proofs.lemmas.List.Edits.{sets}
 use Rattle.descriptor.specs.Limits.{row_limit, depth_limit, count_limit}
 use Rattle.descriptor.specs.Tree.{Forest, forest_height, forest_rows}

@@ -1,6 +1,5 @@
 -- `is_carried` goes by the kind of the code. Assumes nothing.
 use mathlib.Core.Path.{ap}
-use borrow.Author.Rules.{rules}
 use Rattle.descriptor.specs.Codes.{kind_of, is_carried}
 use Rattle.descriptor.specs.declared.codes.Kind.TheVariants as kinds
 use Rattle.descriptor.proofs.CodeKinds.{kind_named, known}

@@ -1,7 +1,6 @@
 -- `bad_code` refuses at the low code byte. Assumes nothing.
 use mathlib.Core.Path.{ap, ◌∙◌}
 use Prim.Native.Nat.{ℕ}
-use borrow.Author.Rules.{rules}
 use Rattle.descriptor.specs.inner.Steps.{refused_head}
 use Rattle.descriptor.proofs.header.bad_code.Goals as goal
 

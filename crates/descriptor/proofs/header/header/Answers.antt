@@ -1,13 +1,12 @@
 -- `header` reads the header as document 01 has it: each return by the tests that lead to it. Assumes nothing.
-use mathlib.Core.Path.{◌≡◌, refl, sym, ◌∙◌, ap}
+use mathlib.Core.Path.{◌≡◌, refl, sym, ◌∙◌}
 use mathlib.Core.Logic.{◌⊎◌, ⊎_elim, inl, inr}
 use mathlib.Core.Bool.{Bool, true, false, ◌&&◌}
 use native.Mathlib.Omega.{arith}
-use borrow.Author.Tests.{eq-eqb, ne_eqb, le-leb, lt-leb, lt-ltb, le-ltb, not-true, not-false}
+use borrow.Author.Tests.{eq-eqb, ne_eqb, le-leb, lt-leb, lt-ltb, le-ltb}
 use Rattle.descriptor.specs.Codes.{kind_of, is_array}
 use Rattle.descriptor.specs.Check.{header_at}
 use Rattle.descriptor.proofs.Steps.{impossible}
-use borrow.Author.Rules.{rules}
 use Rattle.descriptor.proofs.header.header.Goals as goal
 use Rattle.descriptor.proofs.header.header.Goals.{then-in_array+else-is_array, else-in_array}
 

@@ -1,8 +1,7 @@
 -- `inside_of` goes by the kind of the code and the count word. Assumes nothing.
-use mathlib.Core.Path.{◌≡◌, refl, ap, ◌∙◌}
+use mathlib.Core.Path.{refl, ap, ◌∙◌}
 use Prim.Native.Nat.{◌+◌, ◌*◌}
 use native.Mathlib.Omega.{arith}
-use borrow.Author.Rules.{rules}
 use Rattle.number.specs.Endian.{be}
 use Rattle.descriptor.specs.Codes.{plain, enumeration, quantity, string, array, cluster, stamp, unknown, kind_of}
 use Rattle.descriptor.specs.inner.Standing.{leaf_inside}

@@ -1,7 +1,6 @@
 -- `not_carried` refuses at the low code byte. Assumes nothing.
 use mathlib.Core.Path.{ap, ◌∙◌}
 use Prim.Native.Nat.{ℕ}
-use borrow.Author.Rules.{rules}
 use Rattle.descriptor.specs.inner.Steps.{refused_step}
 use Rattle.descriptor.proofs.step.not_carried.Goals as goal
 

@@ -1,7 +1,6 @@
 -- `width` meets its contract: within the table by the test over it, past the table by the rule's last case.
 use mathlib.Core.Path.{sym}
 use native.Mathlib.Omega.{arith}
-use borrow.Author.Rules.{rules}
 use Rattle.descriptor.proofs.Widths.{entry-width, entry-small, none-past}
 use Rattle.descriptor.proofs.width.width.Goals as goal
 

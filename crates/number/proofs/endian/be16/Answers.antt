@@ -1,7 +1,6 @@
 -- `be16` meets its contract: the two bytes, joined.
 use native.Mathlib.Omega.{arith}
 use Rattle.number.proofs.Reading.{be-two}
-use borrow.Author.Rules.{rules}
 use Rattle.number.proofs.endian.be16.Goals as goal
 
 pub returns : goal.returns

@@ -1,7 +1,6 @@
 -- `be32` meets its contract: two numbers of two bytes, joined by the split law.
 use native.Mathlib.Omega.{arith}
 use Rattle.number.proofs.Reading.{be-split}
-use borrow.Author.Rules.{rules}
 use Rattle.number.proofs.endian.be32.Goals as goal
 
 pub returns : goal.returns

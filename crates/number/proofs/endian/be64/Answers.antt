@@ -1,7 +1,6 @@
 -- `be64` meets its contract: two numbers of four bytes, joined by the split law.
 use native.Mathlib.Omega.{arith}
 use Rattle.number.proofs.Reading.{be-split}
-use borrow.Author.Rules.{rules}
 use Rattle.number.proofs.endian.be64.Goals as goal
 
 pub returns : goal.returns

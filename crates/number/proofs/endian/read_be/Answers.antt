@@ -1,10 +1,8 @@
 -- The answers to the goals of `read_be`.
 use mathlib.Core.Path.{◌≡◌, refl}
-use Prim.Native.Nat.{◌-◌, ◌^◌, ◌≤◌}
 use native.Mathlib.Omega.{arith}
 use borrow.Author.Rules.{rules}
 use Rattle.number.specs.Endian.{be}
-use Rattle.number.specs.inner.Post.{Bounded}
 use Rattle.number.proofs.Reading.{byte_more, byte_fits, be-more}
 use Rattle.number.proofs.endian.read_be.Goals as goal
 

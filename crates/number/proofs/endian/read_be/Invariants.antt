@@ -1,11 +1,7 @@
 -- `read_be` meets its contract. The invariant: what is read so far is the number of the first i bytes.
-use mathlib.Core.Path.{◌≡◌, refl}
 use Prim.Native.Nat.{◌-◌, ◌^◌, ◌≤◌}
-use native.Mathlib.Omega.{arith}
-use borrow.Author.Rules.{rules}
 use Rattle.number.specs.Endian.{be}
 use Rattle.number.specs.inner.Post.{Bounded}
-use Rattle.number.proofs.Reading.{byte_more, byte_fits, be-more}
 use Rattle.number.proofs.endian.read_be.Given as goal
 
 abbrev pub invariant-loop-i : goal.invariant-loop-i

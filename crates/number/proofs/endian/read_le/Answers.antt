@@ -1,10 +1,9 @@
 -- The answers to the goals of `read_le`.
 use mathlib.Core.Path.{◌≡◌, refl}
-use Prim.Native.Nat.{◌+◌, ◌-◌, ◌^◌, ◌≤◌}
+use Prim.Native.Nat.{◌+◌, ◌-◌}
 use native.Mathlib.Omega.{arith}
 use borrow.Author.Rules.{rules}
 use Rattle.number.specs.Endian.{le}
-use Rattle.number.specs.inner.Post.{Bounded}
 use Rattle.number.proofs.Reading.{byte_more, byte_fits, le-turn}
 use Rattle.number.proofs.endian.read_le.Goals as goal
 

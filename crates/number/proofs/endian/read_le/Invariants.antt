@@ -1,11 +1,7 @@
 -- `read_le` meets its contract. The invariant: the bytes past the first `left` are read.
-use mathlib.Core.Path.{◌≡◌, refl}
 use Prim.Native.Nat.{◌+◌, ◌-◌, ◌^◌, ◌≤◌}
-use native.Mathlib.Omega.{arith}
-use borrow.Author.Rules.{rules}
 use Rattle.number.specs.Endian.{le}
 use Rattle.number.specs.inner.Post.{Bounded}
-use Rattle.number.proofs.Reading.{byte_more, byte_fits, le-turn}
 use Rattle.number.proofs.endian.read_le.Given as goal
 
 abbrev pub invariant-loop-left : goal.invariant-loop-left

@@ -1,10 +1,8 @@
 -- The answers to the goals of `write_be`.
 use mathlib.Core.Path.{◌≡◌, refl, ◌∙◌}
-use Prim.Native.Nat.{◌≤◌}
 use native.Mathlib.Omega.{arith}
 use borrow.Author.Rules.{rules}
-use lib.ListN.{length, length-set}
-use lib.Seq.{sets}
+use lib.ListN.{length-set}
 use Rattle.number.specs.Endian.{be_bytes}
 use Rattle.number.proofs.Writing.{be-store}
 use Rattle.number.proofs.endian.write_be.Goals as goal

@@ -1,12 +1,9 @@
 -- `write_be` meets its contract. The invariant: with the bytes that are left, the buffer becomes what is promised.
-use mathlib.Core.Path.{◌≡◌, refl, ◌∙◌}
+use mathlib.Core.Path.{◌≡◌}
 use Prim.Native.Nat.{◌≤◌}
-use native.Mathlib.Omega.{arith}
-use borrow.Author.Rules.{rules}
-use lib.ListN.{length, length-set}
+use lib.ListN.{length}
 use lib.Seq.{sets}
 use Rattle.number.specs.Endian.{be_bytes}
-use Rattle.number.proofs.Writing.{be-store}
 use Rattle.number.proofs.endian.write_be.Given as goal
 
 abbrev pub invariant-loop-left : goal.invariant-loop-left

@@ -1,11 +1,10 @@
 -- The answers to the goals of `write_le`.
 use mathlib.Core.Path.{◌≡◌, refl, ◌∙◌}
-use Prim.Native.Nat.{◌+◌, ◌-◌, ◌≤◌}
+use Prim.Native.Nat.{◌-◌}
 use native.Mathlib.Nat.{add-zero, sub-zero}
 use native.Mathlib.Omega.{arith}
 use borrow.Author.Rules.{rules}
-use lib.ListN.{length, length-set}
-use lib.Seq.{sets}
+use lib.ListN.{length-set}
 use Rattle.number.specs.Endian.{le_bytes}
 use Rattle.number.proofs.Writing.{le-store}
 use Rattle.number.proofs.endian.write_le.Goals as goal

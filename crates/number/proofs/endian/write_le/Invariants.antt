@@ -1,13 +1,9 @@
 -- `write_le` meets its contract. The invariant: with the n - i bytes that are left, the buffer becomes what is promised.
-use mathlib.Core.Path.{◌≡◌, refl, ◌∙◌}
+use mathlib.Core.Path.{◌≡◌}
 use Prim.Native.Nat.{◌+◌, ◌-◌, ◌≤◌}
-use native.Mathlib.Nat.{add-zero, sub-zero}
-use native.Mathlib.Omega.{arith}
-use borrow.Author.Rules.{rules}
-use lib.ListN.{length, length-set}
+use lib.ListN.{length}
 use lib.Seq.{sets}
 use Rattle.number.specs.Endian.{le_bytes}
-use Rattle.number.proofs.Writing.{le-store}
 use Rattle.number.proofs.endian.write_le.Given as goal
 
 abbrev pub invariant-loop-i : goal.invariant-loop-i
