@@ -3,7 +3,7 @@
 use mathlib.Core.Path.{◌≡◌, refl, sym, ap, ◌∙◌}
 use mathlib.Core.Bool.{true}
 use mathlib.Core.List.{List}
-use Prim.Native.Nat.{ℕ, ◌-◌, ◌≤◌}
+use Prim.Native.Nat.{ℕ, ◌≤◌}
 use native.Mathlib.Omega.{arith}
 use borrow.Author.Tests.{leb-true}
 use lib.Dec.{leb, eqb}
@@ -25,7 +25,7 @@ use Rattle.flattened.specs.Walk.{walk, walked}
 use Rattle.flattened.specs.inner.Types.{type_of, type_at}
 use Rattle.walking.proofs.Checking.{top-stands}
 use Rattle.flattened.proofs.Refusals.{refused-number}
-use Rattle.access.specs.inner.Spots.{Lies, spot}
+use Rattle.access.specs.inner.Spots.{Lies}
 use Rattle.access.proofs.Outcomes.{is_read-read}
 
 -- the data is what was walked whole

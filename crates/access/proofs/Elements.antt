@@ -3,12 +3,12 @@
 use mathlib.Core.Path.{◌≡◌, sym, ap, ◌∙◌}
 use mathlib.Core.Bool.{true}
 use mathlib.Core.List.{List, ◌∷◌}
-use Prim.Native.Nat.{ℕ, zero, ◌-◌, ◌^◌, ◌<◌, ◌≤◌, min}
+use Prim.Native.Nat.{ℕ, zero, ◌^◌, ◌<◌, ◌≤◌, min}
 use native.Mathlib.Omega.{arith}
 use borrow.Author.Tests.{lt-ltb, le-ltb}
 use lib.ListN.{length}
 use Rattle.descriptor.specs.Limits.{depth_limit}
-use Rattle.descriptor.specs.Outcome.{Outcome, refused, read, and_then}
+use Rattle.descriptor.specs.Outcome.{Outcome, read, and_then}
 use Rattle.descriptor.specs.Tree.{dimensions, nil, cons}
 use Rattle.descriptor.specs.inner.Standing.{is_read, next_of}
 use Rattle.descriptor.proofs.Outcomes.{holds_read}

@@ -8,7 +8,7 @@ use lib.ListN.{length, take, drop}
 use lib.Seq.{slice, take-add, drop_at, length-take-le}
 use Rattle.descriptor.specs.Limits.{depth_limit}
 use Rattle.descriptor.specs.Outcome.{Outcome, read, and_then, judge}
-use Rattle.descriptor.specs.Answers.{refusal, accepted}
+use Rattle.descriptor.specs.Answers.{accepted}
 use Rattle.descriptor.specs.inner.Standing.{is_read, next_of}
 use Rattle.descriptor.specs.declared.answer.Answer.{Answer}
 use Rattle.flattened.specs.Answers.{data_check}
@@ -18,7 +18,7 @@ use Rattle.flattened.specs.inner.Types.{type_at}
 use Rattle.flattened.specs.declared.cursor.Cursor.{Cursor}
 use Rattle.access.specs.Path.{Spot, spot_of, no_part, part_of, located}
 use Rattle.access.specs.inner.Past.{values_at, Values, past_values}
-use Rattle.access.specs.inner.Spots.{Lies, spot, reached, Known, Reaches}
+use Rattle.access.specs.inner.Spots.{Lies, reached, Known, Reaches}
 use Rattle.access.specs.declared.part.Part.{Part}
 use Rattle.access.specs.declared.reach.Reach.{Reach}
 use Rattle.access.specs.declared.reach.Reach.TheVariants.{To, Lost}

@@ -1,7 +1,7 @@
 -- The types that a step meets: with more of the depth left, and the one type inside an array. Rests on what types are made of.
 use mathlib.Core.Path.{◌≡◌, ap, ◌∙◌}
 use mathlib.Core.List.{List}
-use Prim.Native.Nat.{ℕ, ◌+◌, ◌-◌, ◌≤◌}
+use Prim.Native.Nat.{ℕ, ◌+◌, ◌≤◌}
 use native.Mathlib.Omega.{arith}
 use Rattle.descriptor.specs.Header.{size_in}
 use Rattle.descriptor.specs.Limits.{depth_limit}

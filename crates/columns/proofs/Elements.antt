@@ -6,7 +6,7 @@ use Prim.Native.Nat.{ℕ, zero, suc, ◌+◌, ◌*◌, ◌≤◌}
 use native.Mathlib.Nat.{add-zero, zero-add, suc-add, suc-mul}
 use native.Mathlib.Omega.{arith}
 use lib.ListN.{length, set, take, drop, length-take, length-reverse}
-use lib.Seq.{sets, length-sets}
+use lib.Seq.{sets}
 use Rattle.number.proofs.Writing.{sets-past}
 use Rattle.byte_order.specs.inner.Turning.{turned_at, turned_run}
 use Rattle.columns.specs.inner.Columns.{copies, total, turned_numbers, turned_elements, turned_column, turned_columns}

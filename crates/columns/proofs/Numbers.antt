@@ -2,24 +2,23 @@
 -- of a row keep of both. Rests on what such a type is made of.
 use mathlib.Core.Path.{◌≡◌, refl, sym, ap, ap₂, subst, ◌∙◌}
 use mathlib.Core.Bool.{Bool, true, false, cond}
-use mathlib.Core.List.{List, [], ◌∷◌, ◌++◌, append-nil}
-use mathlib.Core.Logic.{◌⊎◌, inl, inr, ⊎_elim}
-use Prim.Native.Nat.{ℕ, zero, suc, ◌+◌, ◌-◌, ◌*◌, ◌<◌, ◌≤◌}
+use mathlib.Core.List.{List, [], ◌∷◌, ◌++◌}
+use Prim.Native.Nat.{ℕ, suc, ◌+◌, ◌-◌, ◌<◌, ◌≤◌}
 use native.Mathlib.Nat.{sub-zero, add-zero}
 use native.Mathlib.Omega.{arith}
-use borrow.Author.Tests.{eq-eqb, ne_eqb, eqb-true}
+use borrow.Author.Tests.{eq-eqb, eqb-true}
 use lib.Dec.{eqb}
 use lib.ListN.{length}
 use Rattle.descriptor.specs.Codes.{kind_of, is_complex}
 use Rattle.descriptor.specs.Header.{size_in, code_in}
-use Rattle.descriptor.specs.Tree.{Name, Fields, empty, items, pairs, text, dimensions, members, subtype, Tree, node, Forest, nil, cons}
+use Rattle.descriptor.specs.Tree.{Fields, empty, items, pairs, text, dimensions, members, subtype, Forest}
 use Rattle.descriptor.specs.Width.{width_of}
 use Rattle.descriptor.specs.inner.Steps.{is_compound}
 use Rattle.descriptor.specs.inner.Standing.{forest_of, inside_of, Stands}
 use Rattle.descriptor.specs.declared.inside.Inside.{Inside}
 use Rattle.descriptor.proofs.Standing.{row-none}
 use Rattle.descriptor.proofs.Steps.{impossible}
-use Rattle.flattened.specs.inner.Types.{type_at, types_at, TypeStands, RowStands, fields_kind}
+use Rattle.flattened.specs.inner.Types.{type_at, types_at, RowStands, fields_kind}
 use Rattle.flattened.proofs.Cases.{it, is-measured, not-measured, types-inside, compound-inside}
 use Rattle.flattened.proofs.Codes.{is_measured}
 use Rattle.flattened.proofs.Types.{RowTurn, row-turn}

@@ -1,6 +1,6 @@
 -- Demand 2, which data is accepted. The public entry whose contract uses these definitions is check_data; the others judge data by the same
 -- `walked`. Rests on the laws of values: what is walked is a value's flattening, and what is a value's flattening is walked.
-use mathlib.Core.Path.{◌≡◌, refl, sym, ap, ◌∙◌}
+use mathlib.Core.Path.{◌≡◌, refl, ap, ◌∙◌}
 use mathlib.Core.Logic.{◌↔◌}
 use mathlib.Core.List.{List}
 use Prim.Native.Nat.{ℕ, ◌≤◌}

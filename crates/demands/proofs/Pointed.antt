@@ -13,7 +13,7 @@ use lib.ListN.{length, get_or, length-append}
 use lib.Seq.{slice, length-slice, slice_empty}
 use Rattle.number.specs.Endian.{be}
 use Rattle.descriptor.specs.Limits.{descriptor_limit, row_limit, depth_limit, dimension_limit, pair_limit, count_limit, high_bit}
-use Rattle.descriptor.specs.Codes.{Kind, plain, enumeration, quantity, string, array, cluster, stamp, unknown, kind_of, is_carried, is_array, between}
+use Rattle.descriptor.specs.Codes.{Kind, plain, enumeration, quantity, string, array, cluster, stamp, unknown, is_carried, is_array, between}
 use Rattle.descriptor.specs.Header.{header_size, code_at, body_at, size_in, code_in, reserved_in}
 use Rattle.descriptor.specs.Tree.{Name, Fields, Tree, Forest, child_count, inside_at, items_size, name_size, tree_size, forest_size, row_count}
 use Rattle.descriptor.specs.Stamp.{stamp_subtype, inside_fits}

@@ -13,7 +13,7 @@ use Rattle.canonical.specs.Equality.{same_tree}
 use Rattle.canonical.proofs.Same.{same-tree, same_refl}
 use Rattle.flattened.specs.Token.{Token, joined}
 use Rattle.resolution.specs.Record.{Member, namesakes, member_bytes, joined_bytes}
-use Rattle.demands.proofs.Shape.{name_of, NonEmpty, DistinctNames, Among, here, count_named, Missing, FoundOnce, Doubled, OtherType, Right, AllRight, FirstWrong, missing, doubled, other_type, later, Gives, Gets, nothing, more, Agree}
+use Rattle.demands.proofs.Shape.{name_of, NonEmpty, DistinctNames, Among, count_named, Missing, FoundOnce, Doubled, OtherType, Right, AllRight, FirstWrong, missing, doubled, other_type, later, Gives, Gets, nothing, more, Agree}
 use Rattle.demands.proofs.Namesakes.{bytes-missing, bytes-doubled, bytes-once, bytes-right, agree-member}
 use Rattle.demands.proofs.Members.{counted-among, among-formed, Listed, among-gives}
 

@@ -1,11 +1,11 @@
 -- Demand 2's tree as the table shows it: every row is a descriptor of the tree, and every descriptor has its row, in order of first byte,
 -- each of its seven numbers said by the bytes and the tree. The public entry whose contract uses these definitions is check_descriptor.
 -- Rests on the laws of the table's length, and of what stands where in accepted bytes.
-use mathlib.Core.Path.{◌≡◌, refl, sym, ap, subst, ◌∙◌}
+use mathlib.Core.Path.{◌≡◌, refl, sym, ap, ◌∙◌}
 use mathlib.Core.Logic.{◌≢◌}
 use mathlib.Core.Bool.{◌||◌}
 use mathlib.Core.List.{List, [], ◌∷◌, ◌++◌, map, append_assoc, append-nil}
-use Prim.Native.Nat.{ℕ, zero, suc, ◌+◌, ◌-◌, ◌*◌, ◌%◌, ◌≤◌, ◌<◌}
+use Prim.Native.Nat.{ℕ, zero, suc, ◌+◌, ◌-◌, ◌%◌, ◌≤◌, ◌<◌}
 use native.Mathlib.Omega.{arith}
 use borrow.Author.Tests.{eqb-true}
 use lib.Dec.{eqb}
@@ -14,7 +14,7 @@ use lib.Seq.{slice, length-slice}
 use Rattle.number.specs.Endian.{be}
 use Rattle.descriptor.specs.Limits.{row_limit}
 use Rattle.descriptor.specs.Codes.{Kind, plain, enumeration, quantity, string, array, cluster, stamp, unknown, kind_of}
-use Rattle.descriptor.specs.Tree.{Name, unnamed, named, Fields, Tree, node, Forest, nil, cons, count_of, child_count, inside_at, tree_size, forest_size, row_count}
+use Rattle.descriptor.specs.Tree.{Name, unnamed, named, Fields, Tree, node, Forest, nil, cons, child_count, inside_at, tree_size, forest_size, row_count}
 use Rattle.descriptor.specs.Outcome.{Outcome, refused, read}
 use Rattle.descriptor.specs.Check.{name_at, checked}
 use Rattle.descriptor.specs.Table.{place_of_name, length_of_name, row_of, rows_of, forest_rows_of, zero_row, table_of}

@@ -1,14 +1,14 @@
 -- Document 01, "Checked by hand": the rows marked P, P1 to P12, as one fact that is computed from the definitions.
 -- The public entries whose contracts use these definitions are check_descriptor and compare, and those of the questions about data.
-use Rattle.std.specs.Prelude.{◌≡◌, refl, Bool, true, false, List, [], ◌∷◌, ◌++◌, ℕ, replicate, pos, negsuc}
+use Rattle.std.specs.Prelude.{◌≡◌, refl, Bool, true, false, List, [], ◌∷◌, ℕ, replicate, negsuc}
 use Rattle.number.specs.Endian.{be, be_bytes}
 use Rattle.number.specs.Signed.{signed}
 use Rattle.descriptor.specs.Codes.{kind_of}
 use Rattle.descriptor.specs.Tree.{child_count, count_of, items_size, fields_size, name_size, tree_size, forest_size, row_count, forest_rows}
 use Rattle.descriptor.specs.Check.{header_at, count_at, run_at, item_at, items_at, pairs_at, fields_read, judged, contents_at, fill_at, filled_at, fields_at, members_at, name_at, node_at, tree_at, checked}
-use Rattle.descriptor.specs.Table.{place_of_name, length_of_name, row_of, rows_of, forest_rows_of, zero_row, table_of}
+use Rattle.descriptor.specs.Table.{place_of_name, length_of_name, row_of, rows_of, forest_rows_of, table_of}
 use Rattle.descriptor.specs.Answers.{refusal, accepted, Tabled, no_rows, descriptor_check, with_table}
-use Rattle.descriptor.specs.Output.{Written, unwritten, written_to}
+use Rattle.descriptor.specs.Output.{unwritten, written_to}
 use Rattle.descriptor.specs.declared.answer.Row.{Row}
 use Rattle.canonical.specs.Equality.{same_list, same_name, items_of, pairs_of, same_tree, same_forest, comparison}
 use Rattle.canonical.specs.declared.Compared.{Compared}
@@ -19,7 +19,6 @@ use Rattle.flattened.specs.Answers.{data_check}
 use Rattle.byte_order.specs.Reversal.{reverse_each, number_count, number_width, reverse_token, reversed, turned, to_little_endian}
 use Rattle.access.specs.Path.{member_at, step_at, spot_at}
 use Rattle.reading.specs.Values.{of_single, of_double, value_of, is_value, number_of, read_value}
-use Rattle.reading.specs.declared.value.Reading.{Reading}
 use Rattle.reading.specs.declared.value.Value.TheVariants.{Unsigned, Signed}
 use Rattle.resolution.specs.Record.{members_from, writer_fields, is_among, reader_names, reader_fields, matches, namesakes, searched, search_number, member_found, member_bytes, joined_bytes, record_bytes, resolved}
 

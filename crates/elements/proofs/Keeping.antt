@@ -5,11 +5,8 @@ use mathlib.Core.Bool.{Bool, true, false, ◌||◌}
 use mathlib.Core.List.{List}
 use Prim.Native.Nat.{ℕ, suc, ◌+◌, ◌-◌, ◌*◌, ◌<◌, ◌≤◌}
 use native.Mathlib.Nat.{add-zero, sub-zero}
-use native.Mathlib.Decide.{dec_lt}
-use native.Mathlib.Numerals.{add-one}
 use native.Mathlib.Omega.{arith}
 use borrow.Author.Tests.{lt-ltb}
-use lib.ListN.{length}
 use Rattle.descriptor.specs.Codes.{kind_of}
 use Rattle.descriptor.specs.Header.{code_in, size_in}
 use Rattle.descriptor.specs.Tree.{Name, Fields, empty, items, pairs, text, dimensions, members, subtype, Tree, node, Forest, nil, cons}
@@ -23,8 +20,6 @@ use Rattle.flattened.specs.Order.{Order, number_at}
 use Rattle.flattened.specs.inner.Types.{type_at, types_at, RowStands, fields_kind}
 use Rattle.flattened.specs.inner.Extent.{rule_of, type_rule, judges, keeps, joint, least, tokens_in, extent_fields, extent_of, extent_all}
 use Rattle.flattened.specs.inner.Columns.{Definite, judged_in, Ahead, beyond, place_of, KeptFields, Kept, KeptAll, EachBelow, EachKept, EachKeptAll, EachKeptHere}
-use Rattle.flattened.specs.declared.cursor.Cursor.{Cursor}
-use Rattle.flattened.specs.declared.cursor.Skip.TheVariants.{To}
 use Rattle.flattened.specs.declared.extent.Rule.{Rule}
 use Rattle.flattened.specs.declared.extent.Rule.TheVariants.{Any, Below}
 use Rattle.flattened.specs.declared.extent.Extent.{Extent}

@@ -10,7 +10,7 @@ use native.Mathlib.Numerals.{add-one}
 use native.Mathlib.Omega.{arith}
 use lib.ListN.{length}
 use Rattle.flattened.specs.Order.{Order, number_at}
-use Rattle.flattened.specs.inner.Columns.{beyond, ArrivesAt, Across, place_of, EachBelow}
+use Rattle.flattened.specs.inner.Columns.{beyond, ArrivesAt, Across, place_of}
 use Rattle.flattened.specs.declared.cursor.Cursor.{Cursor}
 use Rattle.flattened.specs.declared.cursor.Skip.TheVariants.{To}
 use Rattle.flattened.specs.declared.extent.Extent.{Extent}

@@ -15,7 +15,7 @@ use Rattle.descriptor.specs.Limits.{row_limit, dimension_limit, pair_limit, coun
 use Rattle.descriptor.specs.Header.{body_at, reserved_at, code_at, size_in, code_in, reserved_in}
 use Rattle.descriptor.specs.Codes.{Kind, plain, enumeration, quantity, string, array, cluster, stamp, unknown, kind_of, is_array}
 use Rattle.descriptor.specs.Tree.{Tree, Forest, inside_at, child_count, items_size, fields_size, name_size, tree_size, forest_size, forest_length, row_count, forest_rows, height, forest_height}
-use Rattle.descriptor.specs.Encoding.{word, pascal, packed, pair_bytes, fill, field_bytes, name_bytes, encode_with, forest_with, Bytes, Chars, AllChars, AllPairs, NameFits, Counted, FieldsFit, WellFormed, AllWellFormed}
+use Rattle.descriptor.specs.Encoding.{word, pascal, packed, pair_bytes, fill, field_bytes, name_bytes, encode_with, forest_with, Bytes, Chars, AllChars, AllPairs, NameFits, FieldsFit, WellFormed, AllWellFormed}
 use Rattle.descriptor.specs.Stamp.{stamp_subtype, inside_fits}
 use Rattle.descriptor.specs.Outcome.{Outcome, read}
 use Rattle.descriptor.specs.Check.{Header, item_at, items_at, pairs_at, judged, base_fits, word_fits, fill_at, fields_at, members_at, name_at, node_at, tree_at}

@@ -10,7 +10,7 @@ use borrow.Author.Tests.{le-leb, lt-leb}
 use lib.ListN.{length, get_or}
 use Rattle.number.specs.Endian.{be, le}
 use Rattle.descriptor.specs.Tree.{Fields, empty, items, pairs, text, dimensions, members, subtype}
-use Rattle.descriptor.specs.Outcome.{Outcome, read}
+use Rattle.descriptor.specs.Outcome.{Outcome}
 use Rattle.descriptor.specs.Width.{width_of}
 use Rattle.flattened.specs.Order.{Order, big, little, number_at}
 use Rattle.flattened.specs.Token.{Token, scalar}

@@ -4,7 +4,7 @@
 use Rattle.std.specs.Prelude.{Bool, true, ◌&&◌, List, [], ◌∷◌, ◌++◌, ℕ, zero, suc, ◌+◌, ◌*◌, length, leb, ltb, eqb}
 use Rattle.descriptor.specs.Tree.{Fields, empty, items, pairs, text, dimensions, members, subtype, Tree, node, Forest, nil, cons}
 use Rattle.descriptor.specs.Limits.{data_limit, length_limit}
-use Rattle.descriptor.specs.Outcome.{Outcome, refused, read, and_then, require}
+use Rattle.descriptor.specs.Outcome.{Outcome, read, and_then, require}
 use Rattle.descriptor.specs.Width.{width_of}
 use Rattle.flattened.specs.Order.{Order, number_at}
 use Rattle.flattened.specs.Token.{TokenKind, scalar, string, sizes, Token}

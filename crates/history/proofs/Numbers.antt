@@ -3,11 +3,11 @@
 -- Rests on the numbers of the record's own refusals and of a check.
 use mathlib.Core.Path.{◌≡◌, refl}
 use mathlib.Core.Logic.{◌≢◌}
-use mathlib.Core.Bool.{Bool, true, false, cond}
-use mathlib.Core.List.{List, [], ◌∷◌, ◌++◌}
+use mathlib.Core.Bool.{true}
+use mathlib.Core.List.{List, [], ◌∷◌}
 use Prim.Native.Nat.{ℕ, ◌+◌}
 use lib.Dec.{leb, ltb, eqb}
-use lib.ListN.{length, drop}
+use lib.ListN.{length}
 use Rattle.descriptor.specs.Codes.{between}
 use Rattle.descriptor.specs.Outcome.{Outcome, refused, read, Verdict, denied, granted, settle}
 use Rattle.descriptor.specs.Answers.{refusal, accepted}
@@ -15,7 +15,7 @@ use Rattle.descriptor.specs.Output.{Written, unwritten, written_to}
 use Rattle.descriptor.proofs.Outcomes.{judge-so, Refuses, accepted as reading, refusing, refuses-so, refuses-require, refuses-cond, refuses-and}
 use Rattle.access.specs.Path.{no_part}
 use Rattle.access.specs.declared.part.Part.{Part}
-use Rattle.demands.proofs.Numbers.{Numbers, numbers, OneOf, here, further, Answered, accepts, refuses, of_room, written-answered, lacks, never}
+use Rattle.demands.proofs.Numbers.{Numbers, numbers, here, further, Answered, accepts, refuses, of_room, written-answered, lacks, never}
 use Rattle.store.specs.Book.{identified, Blank, body_size, stop_of, Book}
 use Rattle.store.specs.Layout.{bodies_end}
 use Rattle.store.specs.Check.{opened, book_check}

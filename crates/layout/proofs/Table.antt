@@ -1,9 +1,9 @@
 -- The rows in use and zeros after them are the whole table. Rests on `Rows`, and on the descriptor's count of rows.
 use mathlib.Core.Path.{◌≡◌, refl, ap, sym, ◌∙◌}
 use mathlib.Core.List.{List, [], ◌++◌}
-use Prim.Native.Nat.{ℕ, ◌+◌, ◌-◌, ◌*◌, ◌≤◌}
+use Prim.Native.Nat.{ℕ, ◌-◌, ◌*◌, ◌≤◌}
 use native.Mathlib.Omega.{arith}
-use lib.ListN.{length, take, replicate, length-append, length-replicate}
+use lib.ListN.{length, replicate, length-append, length-replicate}
 use lib.Seq.{take_at}
 use Rattle.descriptor.specs.Limits.{row_limit}
 use Rattle.descriptor.specs.Tree.{Tree, row_count}

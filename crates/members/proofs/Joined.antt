@@ -110,8 +110,8 @@ module _ (s starts picks : List ℕ) (n : ℕ) (before : List ℕ) (copies : Cop
             let bytes : List ℕ = start_bytes s starts (get_or picks j 0) in
             let long : length (take (to - from) (drop from s)) ≡ to - from = ap length part-is ∙ size in
             let whole =
-                ap (λ (x : List ℕ). x ++ drop (length (take (to - from) (drop from s))) (take (length out - at) (drop at out)))
-                (sym (take-length (take (to - from) (drop from s)))) in
+            ap (λ (x : List ℕ). x ++ drop (length (take (to - from) (drop from s))) (take (length out - at) (drop at out)))
+            (sym (take-length (take (to - from) (drop from s)))) in
             record {
               most = omega arith;
               end = omega (arith, ap length grown, length-append (picked_bytes s starts picks j) bytes, size, l.end);

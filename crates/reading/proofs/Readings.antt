@@ -2,7 +2,7 @@
 -- bytes are there, since the data was walked. Rests on the laws of answers and of values.
 use mathlib.Core.Path.{◌≡◌, refl, sym, ap, ◌∙◌}
 use mathlib.Core.List.{List}
-use Prim.Native.Nat.{ℕ, ◌+◌, ◌-◌, ◌<◌, ◌≤◌}
+use Prim.Native.Nat.{ℕ, ◌+◌, ◌<◌, ◌≤◌}
 use native.Mathlib.Decide.{dec_lt}
 use native.Mathlib.Omega.{arith}
 use lib.ListN.{length}
@@ -10,7 +10,7 @@ use Rattle.number.specs.Endian.{be}
 use Rattle.descriptor.specs.Header.{code_in}
 use Rattle.descriptor.specs.Limits.{depth_limit}
 use Rattle.descriptor.specs.Outcome.{Outcome, refused, read, and_then, require, judge}
-use Rattle.descriptor.specs.Answers.{refusal, accepted}
+use Rattle.descriptor.specs.Answers.{accepted}
 use Rattle.descriptor.specs.Width.{width_of}
 use Rattle.descriptor.specs.inner.Standing.{is_read}
 use Rattle.descriptor.specs.declared.answer.Answer.{Answer}

@@ -1,6 +1,6 @@
 -- A record added: what is written, and each answer. Rests on what is known of an opened book and on the laws of identifiers.
-use mathlib.Core.Path.{◌≡◌, refl, sym, ap, ap₂, ◌∙◌}
-use mathlib.Core.Bool.{Bool, true, false}
+use mathlib.Core.Path.{◌≡◌, refl, sym, ap, ◌∙◌}
+use mathlib.Core.Bool.{true, false}
 use mathlib.Core.List.{List, ◌++◌}
 use Prim.Native.Nat.{ℕ, ◌+◌, ◌-◌, ◌^◌, ◌≤◌, ◌<◌}
 use native.Mathlib.Omega.{arith}
@@ -10,14 +10,13 @@ use lib.Dec.{leb, ltb}
 use lib.ListN.{length, take, drop, take-append-drop}
 use lib.Seq.{take-length, sets, sets-eq, length-sets, length-take-le}
 use Rattle.number.specs.Endian.{be, be_bytes}
-use Rattle.number.proofs.Writing.{length-be_bytes, sets-append}
+use Rattle.number.proofs.Writing.{sets-append}
 use Rattle.descriptor.specs.Limits.{descriptor_limit, data_limit}
 use Rattle.descriptor.specs.Tree.{Tree}
-use Rattle.descriptor.specs.Encoding.{Bytes, word}
-use Rattle.descriptor.specs.Outcome.{Outcome, refused, read, and_then, require, Verdict, denied, granted, judge, settle}
+use Rattle.descriptor.specs.Outcome.{Outcome, refused, read, Verdict, denied, granted}
 use Rattle.descriptor.specs.Check.{checked}
 use Rattle.descriptor.specs.Answers.{accepted}
-use Rattle.descriptor.specs.Output.{Written, unwritten}
+use Rattle.descriptor.specs.Output.{unwritten}
 use Rattle.descriptor.specs.inner.Steps.{counted}
 use Rattle.descriptor.specs.declared.step.Step.{Step}
 use Rattle.descriptor.proofs.Outcomes.{holds_read, holds-require, holds-weaken, holds-self}
@@ -29,8 +28,8 @@ use Rattle.flattened.specs.Walk.{walked}
 use Rattle.flattened.specs.inner.Types.{type_at}
 use Rattle.members.proofs.Joined.{put_front}
 use Rattle.records.proofs.Topmost.{top-short}
-use Rattle.store.specs.Book.{identified, Blank, body_size, stop_of, Book}
-use Rattle.store.specs.Layout.{book_limit, entry_place, entry_bytes, bodies_end}
+use Rattle.store.specs.Book.{identified, Blank, stop_of, Book}
+use Rattle.store.specs.Layout.{entry_place, entry_bytes, bodies_end}
 use Rattle.store.specs.Check.{opened}
 use Rattle.store.specs.Questions.{entry_of, absent, admitted, with_record, entered, added}
 use Rattle.store.specs.inner.Identity.{told, DataOf}

@@ -7,7 +7,7 @@ use Prim.Native.Nat.{ℕ, zero, suc, ◌+◌, ◌-◌, ◌^◌, ◌≤◌, ◌<�
 use native.Mathlib.Omega.{arith}
 use borrow.Author.Tests.{leb-true, eqb-true, eqb-false, le-leb, lt-leb}
 use lib.Dec.{leb, eqb}
-use lib.ListN.{length, replicate, drop, set, length-append}
+use lib.ListN.{length, replicate, drop, set}
 use lib.Seq.{slice, sets, sets-eq, length-sets}
 use Rattle.number.specs.Endian.{be}
 use Rattle.number.proofs.Reading.{be-bound}
@@ -15,7 +15,7 @@ use Rattle.number.proofs.Writing.{sets-append}
 use Rattle.descriptor.specs.Encoding.{Bytes}
 use Rattle.descriptor.specs.Outcome.{Outcome, refused, read, judge}
 use Rattle.descriptor.specs.Answers.{refusal, accepted}
-use Rattle.descriptor.specs.Output.{Written, unwritten, written_to}
+use Rattle.descriptor.specs.Output.{unwritten, written_to}
 use Rattle.descriptor.specs.inner.Steps.{counted}
 use Rattle.descriptor.specs.declared.step.Step.{Step}
 use Rattle.descriptor.proofs.Outcomes.{Holds, nothing, found as reads, holds_read, holds-require, holds-and_then, Refuses, accepted as fine, refuses-so, refuses-require, refuses-and, refuses-weaken}
@@ -24,15 +24,14 @@ use Rattle.descriptor.proofs.Steps.{got, lost}
 use Rattle.canonical.specs.Equality.{same_chars}
 use Rattle.encoding.proofs.Slices.{bytes-at}
 use Rattle.access.specs.Path.{no_part}
-use Rattle.access.specs.declared.part.Part.{Part}
 use Rattle.store.specs.Book.{Blank, body_size, stop_of, Book}
-use Rattle.store.specs.Layout.{book_limit, entry_place, follows, end_from, contents_end, bodies_end}
+use Rattle.store.specs.Layout.{book_limit, entry_place, end_from, bodies_end}
 use Rattle.store.specs.Check.{blank_at, entry_fits, entry_at, entries_at, zero_at, unused_at, filled, opened, book_check}
 use Rattle.store.specs.Questions.{entry_of, body_part, found, identifiers, listed}
-use Rattle.store.specs.inner.Entries.{spans_at, end_of, name_at, Lies, None, Sought, blanks_at}
+use Rattle.store.specs.inner.Entries.{spans_at, end_of, name_at, Lies, Sought, blanks_at}
 use Rattle.store.specs.inner.Bodies.{body_fits}
 use Rattle.store.specs.declared.spans.Entry.{Entry}
-use Rattle.store.proofs.Entries.{Numbers, blank-numbers, blank-stop}
+use Rattle.store.proofs.Entries.{blank-numbers, blank-stop}
 use Rattle.store.proofs.Seeking.{entry-there, entry-none}
 use Rattle.store.proofs.Opening.{entry-fits, body-room, body-start}
 

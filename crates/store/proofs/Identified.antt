@@ -1,7 +1,7 @@
 -- The identifier of a record: the shape is read as it is said to be, and what it asks for are the four bytes of the one member that carries the
 -- identifier. Rests on the laws of a rig's members.
 use mathlib.Core.Path.{◌≡◌, refl, sym, ap, ◌∙◌}
-use mathlib.Core.Bool.{Bool, true, false}
+use mathlib.Core.Bool.{true, false}
 use mathlib.Core.List.{List, [], ◌∷◌, ◌++◌, append-nil}
 use Prim.Native.Nat.{ℕ, suc, ◌+◌, ◌≤◌, ◌<◌}
 use native.Mathlib.Numerals.{add-one}
@@ -15,7 +15,7 @@ use Rattle.number.proofs.Inverse.{be-part}
 use Rattle.descriptor.specs.Codes.{kind_of}
 use Rattle.descriptor.specs.Tree.{unnamed, named, empty, members, Tree, node, nil, cons, child_count, row_count, forest_rows, forest_length}
 use Rattle.descriptor.specs.Encoding.{Bytes, NameFits, FieldsFit, WellFormed}
-use Rattle.descriptor.specs.Outcome.{Outcome, refused, read, and_then, require, Verdict, denied, granted, judge, settle}
+use Rattle.descriptor.specs.Outcome.{Outcome, refused, read, and_then, Verdict, denied, granted, judge, settle}
 use Rattle.descriptor.specs.Check.{header_at, count_at, fields_read, contents_at, filled_at, fields_at, members_at, name_at, node_at, tree_at, checked}
 use Rattle.descriptor.specs.Width.{width_of}
 use Rattle.descriptor.specs.inner.Standing.{standing, is_read}
@@ -30,11 +30,11 @@ use Rattle.encoding.proofs.Slices.{slice-take}
 use Rattle.flattened.specs.Order.{big}
 use Rattle.flattened.specs.Walk.{scalar_at, walk_fields, walk, walked}
 use Rattle.flattened.specs.inner.Types.{type_of, type_at}
-use Rattle.members.specs.inner.Members.{Inner, top_at, place_from, type_from}
+use Rattle.members.specs.inner.Members.{top_at, place_from, type_from}
 use Rattle.members.specs.inner.Names.{name_of, chars_at, named_at}
 use Rattle.members.proofs.Listing.{member-inner}
-use Rattle.resolution.specs.Record.{Member, writer_members, reader_members, is_among, reader_names, reader_fields, namesakes, searched, search_number, member_found, member_bytes, joined_bytes, record_bytes}
-use Rattle.resolution.specs.inner.Data.{data_from, member_from}
+use Rattle.resolution.specs.Record.{Member, writer_members, reader_members, is_among, reader_names, reader_fields, namesakes, member_found, member_bytes, joined_bytes, record_bytes}
+use Rattle.resolution.specs.inner.Data.{data_from}
 use Rattle.resolution.specs.inner.Searching.{all_members}
 use Rattle.resolution.specs.inner.Picking.{Called, Picks}
 use Rattle.resolution.specs.inner.Tops.{is_cluster, top_count, TopStarts}

@@ -23,7 +23,7 @@ use Rattle.encoding.proofs.Slices.{slice-split}
 use Rattle.store.specs.Book.{identified, Blank, stop_of, is_one_of, Book}
 use Rattle.store.specs.Layout.{book_limit, entry_place, follows}
 use Rattle.store.specs.Check.{blank_at, says, is_blank, entry_fits, entry_at, entries_at, zero_at, unused_at, filled, opened}
-use Rattle.store.specs.inner.Entries.{spans_at, middle_of, end_of, name_at, Lies, seen_before, mark_count, mark_of, Marked, blanks_at}
+use Rattle.store.specs.inner.Entries.{spans_at, middle_of, end_of, name_at, seen_before, mark_count, mark_of, Marked}
 use Rattle.store.specs.inner.Bodies.{none, Known, body_fits}
 use Rattle.store.specs.inner.Runs.{Left, Ran, LeftMarks}
 use Rattle.store.specs.declared.spans.Entry.{Entry}

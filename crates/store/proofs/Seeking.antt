@@ -1,14 +1,14 @@
 -- The search for an identifier, entry by entry; and what it says of the identifiers before an entry. Assumes nothing.
-use mathlib.Core.Path.{◌≡◌, refl, sym, ◌∙◌}
+use mathlib.Core.Path.{◌≡◌, refl}
 use mathlib.Core.Logic.{◌≢◌}
 use mathlib.Core.Bool.{Bool, true, false, cond}
-use mathlib.Core.List.{List, [], ◌∷◌}
+use mathlib.Core.List.{List}
 use Prim.Native.Nat.{ℕ, zero, suc, ◌+◌, ◌≤◌, ◌<◌}
 use native.Mathlib.Omega.{arith}
 use borrow.Author.Tests.{eqb-true, eqb-false, eq-eqb, ne_eqb}
 use lib.Dec.{eqb}
 use Rattle.descriptor.specs.Outcome.{refused, read}
-use Rattle.store.specs.Book.{Blank, is_one_of}
+use Rattle.store.specs.Book.{is_one_of}
 use Rattle.store.specs.Layout.{entry_place}
 use Rattle.store.specs.Check.{blank_at}
 use Rattle.store.specs.Questions.{entry_of}

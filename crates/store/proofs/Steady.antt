@@ -12,8 +12,8 @@ use lib.ListN.{length}
 use Rattle.descriptor.specs.Limits.{descriptor_limit, depth_limit, data_limit}
 use Rattle.descriptor.specs.Header.{size_in}
 use Rattle.descriptor.specs.Tree.{tree_size}
-use Rattle.descriptor.specs.Outcome.{Outcome, read}
-use Rattle.descriptor.proofs.Outcomes.{Holds, found, holds_read, holds-require, holds-and_then, holds-self}
+use Rattle.descriptor.specs.Outcome.{read}
+use Rattle.descriptor.proofs.Outcomes.{found, holds_read, holds-require, holds-and_then, holds-self}
 use Rattle.canonical.specs.inner.Walk.{Accepted}
 use Rattle.flattened.specs.Order.{big}
 use Rattle.flattened.specs.Token.{Token}

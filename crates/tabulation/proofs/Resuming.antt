@@ -1,7 +1,7 @@
 -- The filling with the descriptors whose children are being filled on a stack. What is kept: the table that going on from here comes to is
 -- the one from the start. Rests on `Filling`.
 use mathlib.Core.Path.{◌≡◌, refl, ap, sym, subst, ◌∙◌}
-use mathlib.Core.List.{List, [], ◌∷◌}
+use mathlib.Core.List.{List}
 use Prim.Native.Nat.{ℕ, zero, suc, ◌+◌, ◌-◌, ◌<◌, ◌≤◌}
 use native.Mathlib.Omega.{arith}
 use lib.ListN.{length, get_or, set, replicate, length-set}
@@ -16,7 +16,7 @@ use Rattle.descriptor.specs.declared.inside.Inside.{Inside}
 use Rattle.descriptor.specs.declared.answer.Row.{Row}
 use Rattle.descriptor.specs.inner.Filling.{Table}
 use Rattle.tabulation.specs.declared.table.Open.{Open}
-use Rattle.descriptor.proofs.Filling.{First, after_tree, pre-rest, filled_more, filled_none, low, room, turned, turn-children, turn-row, turn-done}
+use Rattle.descriptor.proofs.Filling.{First, after_tree, pre-rest, filled_more, filled_none, low, room, turn-children, turn-row, turn-done}
 
 -- the depth left for a descriptor with j open above it
 abbrev pub left_at : ℕ → ℕ

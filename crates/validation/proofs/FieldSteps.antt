@@ -1,9 +1,8 @@
 -- The step of a body's fields, once its count is read: a law for each way that the fields may go on. Assumes nothing.
 use mathlib.Core.Path.{◌≡◌, refl, ap, sym, ◌∙◌}
-use mathlib.Core.Bool.{Bool, true, false}
+use mathlib.Core.Bool.{true, false}
 use mathlib.Core.List.{List}
-use Prim.Native.Nat.{ℕ, ◌+◌, ◌-◌, ◌*◌, ◌%◌, ◌<◌, ◌≤◌}
-use native.Mathlib.Omega.{arith}
+use Prim.Native.Nat.{ℕ, ◌+◌, ◌-◌, ◌%◌, ◌<◌, ◌≤◌}
 use borrow.Author.Tests.{le-leb, lt-leb, lt-ltb, le-ltb, eq-eqb, ne_eqb}
 use lib.ListN.{length, get_or}
 use Rattle.descriptor.specs.Limits.{count_limit, pair_limit, dimension_limit}
@@ -19,7 +18,7 @@ use Rattle.descriptor.specs.declared.step.Step.{Step}
 use Rattle.descriptor.proofs.Outcomes.{holds_read}
 use Rattle.descriptor.proofs.Sizes.{CountFits, count_fits, length-pairs_at}
 use Rattle.descriptor.proofs.FieldKinds.{cluster-fields, enumeration-fields, string-fields, array-fields, quantity-fields, stamp-fields}
-use Rattle.descriptor.proofs.Steps.{Got, got, lost}
+use Rattle.descriptor.proofs.Steps.{got, lost}
 
 -- a number that is read is the step's value
 pub value-got : (o : Outcome ℕ) (c : Step) → c ≡ counted (λ k. k) o → c.ok ≡ true → o ≡ read c.next c.value

@@ -22,7 +22,7 @@ use Rattle.descriptor.specs.declared.header.Head.{Head}
 use Rattle.descriptor.proofs.Outcomes.{Holds, holds_read, holds-require, holds-weaken}
 use Rattle.descriptor.proofs.Sizes.{members-end, tree-ends, name-ends}
 use Rattle.descriptor.proofs.Runs.{one_less, none_left}
-use Rattle.descriptor.proofs.Steps.{impossible, Got, got}
+use Rattle.descriptor.proofs.Steps.{impossible, got}
 use Rattle.validation.specs.inner.Rest.{stamp_at, rest_at}
 
 -- a head that is ok: the header that was read

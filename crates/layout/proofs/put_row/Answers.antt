@@ -1,7 +1,6 @@
 -- `put_row` makes seven stores in a row.
 use native.Mathlib.Omega.{arith}
 use Rattle.layout.proofs.Rows.{seven-stored}
-use borrow.Author.Rules.{rules}
 use Rattle.layout.proofs.put_row.Goals as goal
 
 pub returns : goal.returns

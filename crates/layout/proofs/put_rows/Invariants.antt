@@ -1,12 +1,8 @@
 -- `put_rows` starts from zeros. The loop's invariant: the numbers of the rows passed stand at the front, and zeros after them.
 -- The measure is the rows left.
-use Rattle.layout.specs.Numbers.{rows_numbers}
-use mathlib.Core.Path.{◌≡◌, refl, ap, ◌∙◌}
-use Prim.Native.Nat.{ℕ, ◌≤◌, ◌-◌}
-use lib.ListN.{length}
-use native.Mathlib.Omega.{arith}
-use borrow.Author.Rules.{rules}
-use Rattle.layout.proofs.Rows.{laid, laid_more, laid-length}
+use mathlib.Core.Path.{◌≡◌}
+use Prim.Native.Nat.{◌≤◌, ◌-◌}
+use Rattle.layout.proofs.Rows.{laid}
 use Rattle.layout.proofs.put_rows.Given as goal
 
 abbrev pub invariant-loop-i : goal.invariant-loop-i

@@ -3,7 +3,6 @@ use mathlib.Core.Path.{◌≡◌, refl}
 use mathlib.Core.Bool.{Bool, true, false}
 use mir.Val.{bool_byte}
 use Rattle.layout.specs.Numbers.{truth}
-use borrow.Author.Rules.{rules}
 use Rattle.layout.proofs.put_truth.Goals as goal
 
 pub returns : goal.returns

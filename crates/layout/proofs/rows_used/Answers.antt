@@ -1,5 +1,4 @@
 -- `rows_used` goes by the test that its definition has.
-use borrow.Author.Rules.{rules}
 use borrow.Author.Tests.{eq-eqb, ne_eqb}
 use Rattle.layout.proofs.rows_used.Goals as goal
 

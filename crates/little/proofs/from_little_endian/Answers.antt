@@ -1,6 +1,5 @@
 -- `from_little_endian` is `turn_data` in its order.
 use Rattle.flattened.specs.inner.Order.{order_of}
-use borrow.Author.Rules.{rules}
 use Rattle.little.proofs.from_little_endian.Goals as goal
 
 pub returns : goal.returns

@@ -1,6 +1,5 @@
 -- `to_little_endian` is `turn_data` in its order.
 use Rattle.flattened.specs.inner.Order.{order_of}
-use borrow.Author.Rules.{rules}
 use Rattle.little.proofs.to_little_endian.Goals as goal
 
 pub returns : goal.returns

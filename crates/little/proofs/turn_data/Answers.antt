@@ -5,7 +5,6 @@ use Rattle.descriptor.specs.Output.{Written}
 use Rattle.descriptor.specs.declared.answer.Answer.{Answer}
 use Rattle.flattened.specs.inner.Order.{order_of}
 use Rattle.little.proofs.Answering.{turn-refused, check-accepts, accepted-short, accepted-stands, accepted-turnable, turn_small, turn-written}
-use borrow.Author.Rules.{rules}
 use Rattle.little.proofs.turn_data.Goals as goal
 
 pub returns-then-checked-ne0 : goal.returns-then-checked-ne0

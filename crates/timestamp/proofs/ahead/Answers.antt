@@ -1,5 +1,5 @@
 -- `ahead` meets its contract. Rests on `Taking`.
-use Rattle.std.proofs.Common.{◌∙◌, w64, rules}
+use Rattle.std.proofs.Common.{◌∙◌, w64}
 use mir.Facts.{to_z_pos}
 use Rattle.timestamp.proofs.Taking.{given-pos, far-pos}
 use Rattle.timestamp.proofs.ahead.Goals as goal

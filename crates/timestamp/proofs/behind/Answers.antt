@@ -1,5 +1,5 @@
 -- `behind` meets its contract. Rests on `Taking`.
-use Rattle.std.proofs.Common.{◌∙◌, w64, rules}
+use Rattle.std.proofs.Common.{◌∙◌, w64}
 use mir.ValLaws.{to_z-of_z}
 use Rattle.number.proofs.Complement.{negative, negative_fits}
 use Rattle.timestamp.proofs.Taking.{given-negsuc, far-negsuc}

@@ -1,5 +1,5 @@
 -- `counted` meets its contract: the high half moved up by half its range. Rests on `Taking`.
-use Rattle.std.proofs.Common.{ap, ◌∙◌, ⊎_elim, arith, w32, rules}
+use Rattle.std.proofs.Common.{ap, ◌∙◌, arith, w32}
 use mir.ValLaws.{to_z-of_z}
 use Rattle.timestamp.specs.Difference.{bits_of}
 use Rattle.timestamp.proofs.Taking.{counts-low, counts-high}

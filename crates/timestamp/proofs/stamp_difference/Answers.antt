@@ -1,6 +1,6 @@
 -- `stamp_difference` meets its contract: a second is borrowed where the first fraction is less. Rests on `Taking`.
 
-use Rattle.std.proofs.Common.{◌≡◌, cond, ltb, ◌^◌, ◌<◌, sym, ◌∙◌, ⊎_elim, arith, rules}
+use Rattle.std.proofs.Common.{◌≡◌, cond, ltb, ◌^◌, ◌<◌, sym, ◌∙◌, arith, rules}
 use Rattle.timestamp.specs.Difference.{time_of, given, difference}
 use Rattle.timestamp.proofs.Taking.{counts-handed, less_by, borrowed-less, borrowed-none, taken-gap, fraction-is}
 use Rattle.timestamp.proofs.stamp_difference.Goals as goal

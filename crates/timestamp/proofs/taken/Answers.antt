@@ -1,5 +1,5 @@
 -- `taken` meets its contract: which of the two is more, or neither. Rests on `Gaps`.
-use Rattle.std.proofs.Common.{◌+◌, ◌-◌, ℤ, sym, ap, ◌∙◌, arith, rules}
+use Rattle.std.proofs.Common.{◌+◌, ◌-◌, ℤ, sym, ap, ◌∙◌, arith}
 use Rattle.timestamp.specs.Difference.{given}
 use Rattle.timestamp.proofs.Gaps.{gap-ahead, gap-behind}
 use Rattle.timestamp.proofs.taken.Goals as goal

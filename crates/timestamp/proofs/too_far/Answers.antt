@@ -1,5 +1,5 @@
 -- `too_far` meets its contract. Assumes nothing.
-use Rattle.std.proofs.Common.{pos, rules}
+use Rattle.std.proofs.Common.{pos}
 use Rattle.timestamp.proofs.too_far.Goals as goal
 
 pub returns : goal.returns

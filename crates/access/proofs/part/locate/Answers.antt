@@ -1,9 +1,7 @@
 -- `locate` meets its contract: a refusal, a step that leads nowhere, or the part.
 use mathlib.Core.Path.{ap, ◌∙◌}
-use Prim.Native.Nat.{◌+◌, ◌-◌}
+use Prim.Native.Nat.{◌+◌}
 use native.Mathlib.Omega.{arith}
-use lib.ListN.{length}
-use borrow.Author.Rules.{rules}
 use Rattle.descriptor.specs.declared.answer.Answer.{Answer}
 use Rattle.access.specs.Path.{no_part}
 use Rattle.access.specs.declared.part.Part.{Part}

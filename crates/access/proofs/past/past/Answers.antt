@@ -1,7 +1,6 @@
 -- `past` meets its contract, by the extent of the type: one multiplication, the lengths of the strings, or the walk. Rests on `Runs`.
 use mathlib.Core.Path.{sym, ◌∙◌}
 use Rattle.access.proofs.Runs.{fixed-inside, fixed-past, around-inside, around-past}
-use borrow.Author.Rules.{rules}
 use Rattle.access.proofs.past.past.Goals as goal
 
 pub past_fixed-requires : goal.past_fixed-requires

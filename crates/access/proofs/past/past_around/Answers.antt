@@ -1,13 +1,12 @@
 -- The answers to the goals of `past_around`.
 use mathlib.Core.Path.{◌≡◌, ap, ◌∙◌}
-use Prim.Native.Nat.{ℕ, ◌+◌, ◌-◌}
+use Prim.Native.Nat.{ℕ, ◌+◌}
 use native.Mathlib.Omega.{arith}
 use Rattle.flattened.specs.Order.{big, number_at}
 use Rattle.flattened.specs.inner.Cursor.{cursor}
 use Rattle.flattened.specs.inner.Order.{order_of}
 use Rattle.flattened.specs.declared.cursor.Cursor.{Cursor}
-use Rattle.access.proofs.Arounds.{Passing, passing-begin, passing-inside, passing-next, passing-end}
-use borrow.Author.Rules.{rules}
+use Rattle.access.proofs.Arounds.{passing-begin, passing-inside, passing-next, passing-end}
 use Rattle.access.proofs.past.past_around.Goals as goal
 
 pub loop-i-init : goal.loop-i-init

@@ -1,13 +1,6 @@
 -- `past_around` meets its contract. The invariant: where the values passed end.
-use mathlib.Core.Path.{◌≡◌, ap, ◌∙◌}
-use Prim.Native.Nat.{ℕ, ◌+◌, ◌-◌}
-use native.Mathlib.Omega.{arith}
-use Rattle.flattened.specs.Order.{big, number_at}
-use Rattle.flattened.specs.inner.Cursor.{cursor}
-use Rattle.flattened.specs.inner.Order.{order_of}
-use Rattle.flattened.specs.declared.cursor.Cursor.{Cursor}
-use Rattle.access.proofs.Arounds.{Passing, passing-begin, passing-inside, passing-next, passing-end}
-use borrow.Author.Rules.{rules}
+use Prim.Native.Nat.{◌-◌}
+use Rattle.access.proofs.Arounds.{Passing}
 use Rattle.access.proofs.past.past_around.Given as goal
 
 abbrev pub invariant-loop-i : goal.invariant-loop-i

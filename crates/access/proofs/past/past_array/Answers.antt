@@ -3,7 +3,6 @@ use mathlib.Core.Path.{sym, ◌∙◌}
 use native.Mathlib.Omega.{arith}
 use Rattle.flattened.specs.inner.Order.{order_of}
 use Rattle.access.proofs.Elements.{sizes-lost, array-values, array-past}
-use borrow.Author.Rules.{rules}
 use Rattle.access.proofs.past.past_array.Goals as goal
 
 pub past-requires : goal.past-requires

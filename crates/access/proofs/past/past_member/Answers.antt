@@ -3,7 +3,6 @@ use mathlib.Core.Path.{ap, ◌∙◌}
 use Rattle.descriptor.specs.Width.{width_of}
 use Rattle.descriptor.proofs.Bodies.{header-room}
 use Rattle.access.proofs.Runs.{scalars-inside, scalars-past}
-use borrow.Author.Rules.{rules}
 use Rattle.access.proofs.past.past_member.Goals as goal
 
 pub code_at-requires : goal.code_at-requires

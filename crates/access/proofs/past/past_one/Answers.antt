@@ -6,7 +6,6 @@ use Rattle.descriptor.proofs.Bodies.{header-room}
 use Rattle.descriptor.proofs.CodeKinds.{kind_named, known}
 use Rattle.access.proofs.Runs.{one_lies}
 use Rattle.access.proofs.Stepping.{array_lies, array-one}
-use borrow.Author.Rules.{rules}
 use Rattle.access.proofs.past.past_one.Goals as goal
 
 pub code_at-requires : goal.code_at-requires

@@ -2,7 +2,6 @@
 use mathlib.Core.Path.{sym, ◌∙◌}
 use Rattle.flattened.specs.inner.Order.{order_of}
 use Rattle.access.proofs.Runs.{walked-past, walked-lost}
-use borrow.Author.Rules.{rules}
 use Rattle.access.proofs.past.past_walked.Goals as goal
 
 pub returns-in-Walked : goal.returns-in-Walked

@@ -1,10 +1,8 @@
 -- `element` meets its contract: the size words, and the elements before.
 use mathlib.Core.Path.{sym, ◌∙◌}
-use Prim.Native.Nat.{◌-◌}
 use native.Mathlib.Omega.{arith}
 use Rattle.flattened.specs.inner.Order.{order_of}
 use Rattle.access.proofs.Elements.{sizes-lost, element-out, element-values, element-at}
-use borrow.Author.Rules.{rules}
 use Rattle.access.proofs.steps.element.Goals as goal
 
 pub size_words-sizes-requires : goal.size_words-sizes-requires

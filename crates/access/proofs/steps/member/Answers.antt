@@ -1,10 +1,9 @@
 -- The answers to the goals of `member`.
 use mathlib.Core.Path.{refl, ap}
-use Prim.Native.Nat.{ℕ, ◌+◌, ◌-◌}
+use Prim.Native.Nat.{ℕ, ◌+◌}
 use native.Mathlib.Omega.{arith}
 use Rattle.descriptor.proofs.Bodies.{header-room}
-use Rattle.access.proofs.Members.{MemberLoop, member-begin, member-lies, member-value, member-size, member-again, member-found, member-none}
-use borrow.Author.Rules.{rules}
+use Rattle.access.proofs.Members.{member-begin, member-lies, member-value, member-size, member-again, member-found, member-none}
 use Rattle.access.proofs.steps.member.Goals as goal
 
 pub returns-then-n-k : goal.returns-then-n-k

@@ -1,10 +1,6 @@
 -- `member` meets its contract. The loop's invariant: the member from here on is the member from the start.
-use mathlib.Core.Path.{refl, ap}
-use Prim.Native.Nat.{ℕ, ◌+◌, ◌-◌}
-use native.Mathlib.Omega.{arith}
-use Rattle.descriptor.proofs.Bodies.{header-room}
-use Rattle.access.proofs.Members.{MemberLoop, member-begin, member-lies, member-value, member-size, member-again, member-found, member-none}
-use borrow.Author.Rules.{rules}
+use Prim.Native.Nat.{◌-◌}
+use Rattle.access.proofs.Members.{MemberLoop}
 use Rattle.access.proofs.steps.member.Given as goal
 
 abbrev pub invariant-loop-m : goal.invariant-loop-m

@@ -2,14 +2,13 @@
 use mathlib.Core.Path.{refl, subst}
 use Prim.Native.Nat.{◌+◌, ◌-◌}
 use native.Mathlib.Omega.{arith}
-use lib.ListN.{length, get_or}
+use lib.ListN.{get_or}
 use Rattle.descriptor.specs.Limits.{depth_limit}
 use Rattle.flattened.specs.inner.Types.{type_at}
 use Rattle.access.specs.Path.{step_into}
 use Rattle.access.specs.inner.Spots.{Reaches}
 use Rattle.access.specs.declared.reach.Reach.{Reach}
-use Rattle.access.proofs.Paths.{PathLoop, path-begin, path-again, path-lost, path-done}
-use borrow.Author.Rules.{rules}
+use Rattle.access.proofs.Paths.{path-begin, path-again, path-lost, path-done}
 use Rattle.access.proofs.steps.spot_at.Goals as goal
 
 pub loop-i-init : goal.loop-i-init

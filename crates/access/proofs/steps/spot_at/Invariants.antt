@@ -1,15 +1,7 @@
 -- `spot_at` meets its contract. The loop's invariant: the spot from here on is the spot from the start.
-use mathlib.Core.Path.{refl, subst}
-use Prim.Native.Nat.{◌+◌, ◌-◌}
-use native.Mathlib.Omega.{arith}
-use lib.ListN.{length, get_or}
-use Rattle.descriptor.specs.Limits.{depth_limit}
-use Rattle.flattened.specs.inner.Types.{type_at}
-use Rattle.access.specs.Path.{step_into}
-use Rattle.access.specs.inner.Spots.{Reaches}
-use Rattle.access.specs.declared.reach.Reach.{Reach}
-use Rattle.access.proofs.Paths.{PathLoop, path-begin, path-again, path-lost, path-done}
-use borrow.Author.Rules.{rules}
+use Prim.Native.Nat.{◌-◌}
+use lib.ListN.{length}
+use Rattle.access.proofs.Paths.{PathLoop}
 use Rattle.access.proofs.steps.spot_at.Given as goal
 
 abbrev pub invariant-loop-i : goal.invariant-loop-i

@@ -1,8 +1,5 @@
 -- `step` meets its contract: into an array, into a compound, or nowhere.
 use mathlib.Core.Path.{◌≡◌, sym, ap, ◌∙◌}
-use mathlib.Core.List.{◌∷◌, []}
-use types.Run.{miss}
-use borrow.Author.Rules.{rules}
 use Rattle.descriptor.specs.Codes.{array, kind_of}
 use Rattle.descriptor.specs.Header.{code_in}
 use Rattle.descriptor.specs.inner.Steps.{kind_is, is_compound}

@@ -5,7 +5,6 @@ use native.Mathlib.Omega.{arith}
 use Rattle.byte_order.specs.inner.Turning.{turned_at}
 use Rattle.byte_order.proofs.Widths.{wide-1, wide-2, wide-4, wide-8, wide-16}
 use Rattle.byte_order.proofs.Reversing.{byte-turned}
-use borrow.Author.Rules.{rules}
 use Rattle.byte_order.proofs.numbers.turn_number.Goals as goal
 
 pub bounds-s-at : goal.bounds-s-at

@@ -4,7 +4,6 @@ use native.Mathlib.Omega.{arith}
 use Rattle.flattened.specs.Order.{number_at}
 use Rattle.flattened.specs.inner.Order.{order_of}
 use Rattle.byte_order.proofs.Reversing.{number-turned}
-use borrow.Author.Rules.{rules}
 use Rattle.byte_order.proofs.numbers.turn_number_2.Goals as goal
 
 pub returns : goal.returns

@@ -5,7 +5,6 @@ use Prim.Native.Nat.{ℕ, ◌+◌, ◌/◌}
 use lib.Seq.{sets}
 use Rattle.number.specs.Endian.{le_bytes}
 use Rattle.byte_order.proofs.Reversing.{parts-written}
-use borrow.Author.Rules.{rules}
 use Rattle.byte_order.proofs.numbers.write_8.Goals as goal
 
 pub returns : goal.returns

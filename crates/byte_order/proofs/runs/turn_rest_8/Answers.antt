@@ -1,8 +1,6 @@
 -- The answers to the goals of `turn_rest_8`.
-use Prim.Native.Nat.{◌-◌}
 use native.Mathlib.Omega.{arith}
-use Rattle.byte_order.proofs.RunTurns.{RunLoop, run-begin, run-next, run_end}
-use borrow.Author.Rules.{rules}
+use Rattle.byte_order.proofs.RunTurns.{run-begin, run-next, run_end}
 use Rattle.byte_order.proofs.runs.turn_rest_8.Goals as goal
 
 pub loop-i-init : goal.loop-i-init
@@ -17,9 +15,9 @@ overflow_add-at c = omega (arith, c.requires.inside)
 pub turn_number_8-requires : goal.turn_number_8-requires
 turn_number_8-requires c =
     record {
-  inside = omega (arith, c.requires.inside);
-  room = omega (arith, c.requires.room, c.loop-i.invariant.long);
-}
+      inside = omega (arith, c.requires.inside);
+      room = omega (arith, c.requires.room, c.loop-i.invariant.long);
+    }
 
 pub loop-i-preserved : goal.loop-i-preserved
 loop-i-preserved c =

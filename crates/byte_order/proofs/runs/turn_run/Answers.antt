@@ -3,7 +3,6 @@ use mathlib.Core.Path.{◌≡◌, sym, ap, ◌∙◌}
 use Prim.Native.Nat.{ℕ, ◌+◌, ◌*◌}
 use native.Mathlib.Omega.{arith}
 use Rattle.byte_order.specs.inner.Turning.{turned_run}
-use borrow.Author.Rules.{rules}
 use Rattle.byte_order.proofs.runs.turn_run.Goals as goal
 
 pub turn_run_8-requires : goal.turn_run_8-requires

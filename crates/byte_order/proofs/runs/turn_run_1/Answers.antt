@@ -1,11 +1,10 @@
 -- The answers to the goals of `turn_run_1`.
 use mathlib.Core.Path.{◌≡◌, ap, ◌∙◌}
-use Prim.Native.Nat.{ℕ, ◌+◌, ◌-◌, ◌*◌}
+use Prim.Native.Nat.{ℕ, ◌+◌, ◌*◌}
 use native.Mathlib.Omega.{arith}
 use Rattle.byte_order.specs.inner.Turning.{turned_at}
 use Rattle.byte_order.proofs.Reversing.{byte-turned}
-use Rattle.byte_order.proofs.RunTurns.{RunLoop, run-begin, run-next, run_end}
-use borrow.Author.Rules.{rules}
+use Rattle.byte_order.proofs.RunTurns.{run-begin, run-next, run_end}
 use Rattle.byte_order.proofs.runs.turn_run_1.Goals as goal
 
 pub loop-i-init : goal.loop-i-init

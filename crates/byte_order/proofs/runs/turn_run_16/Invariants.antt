@@ -1,9 +1,7 @@
 -- `turn_run_16` meets its contract. The invariant: with the numbers that are left, the output becomes what is promised. The law over the
 -- width, at 16 bytes.
 use Prim.Native.Nat.{◌-◌}
-use native.Mathlib.Omega.{arith}
-use Rattle.byte_order.proofs.RunTurns.{RunLoop, run-begin, run-next, run_end}
-use borrow.Author.Rules.{rules}
+use Rattle.byte_order.proofs.RunTurns.{RunLoop}
 use Rattle.byte_order.proofs.runs.turn_run_16.Given as goal
 
 abbrev pub invariant-loop-i : goal.invariant-loop-i

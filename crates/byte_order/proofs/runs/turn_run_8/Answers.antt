@@ -1,8 +1,7 @@
 -- The answers to the goals of `turn_run_8`.
 use mathlib.Core.Path.{◌∙◌}
-use Prim.Native.Nat.{◌-◌}
 use native.Mathlib.Omega.{arith}
-use Rattle.byte_order.proofs.RunTurns.{RunLoop, run-begin, run-four, run-rest}
+use Rattle.byte_order.proofs.RunTurns.{run-begin, run-four, run-rest}
 use Rattle.byte_order.proofs.runs.turn_run_8.Goals as goal
 
 pub loop-i-init : goal.loop-i-init
@@ -20,9 +19,9 @@ overflow_add-p c = omega (arith, c.requires.inside)
 pub turn_number_8-requires : goal.turn_number_8-requires
 turn_number_8-requires c =
     record {
-  inside = omega (arith, c.requires.inside, c.loop-i-test.true);
-  room = omega (arith, c.requires.room, c.loop-i.invariant.long);
-}
+      inside = omega (arith, c.requires.inside, c.loop-i-test.true);
+      room = omega (arith, c.requires.room, c.loop-i.invariant.long);
+    }
 
 pub overflow_add-p-in-loop-i : goal.overflow_add-p-in-loop-i
 overflow_add-p-in-loop-i c = omega (arith, c.requires.inside, c.loop-i-test.true)
@@ -30,9 +29,9 @@ overflow_add-p-in-loop-i c = omega (arith, c.requires.inside, c.loop-i-test.true
 pub turn_number_8-requires-in-loop-i : goal.turn_number_8-requires-in-loop-i
 turn_number_8-requires-in-loop-i c =
     record {
-  inside = omega (arith, c.requires.inside, c.loop-i-test.true);
-  room = omega (arith, c.requires.room, c.loop-i.invariant.long, c.turn_number_8.auto.out);
-}
+      inside = omega (arith, c.requires.inside, c.loop-i-test.true);
+      room = omega (arith, c.requires.room, c.loop-i.invariant.long, c.turn_number_8.auto.out);
+    }
 
 pub overflow_add-p-in-loop-i-2 : goal.overflow_add-p-in-loop-i-2
 overflow_add-p-in-loop-i-2 c = omega (arith, c.requires.inside, c.loop-i-test.true)
@@ -40,9 +39,9 @@ overflow_add-p-in-loop-i-2 c = omega (arith, c.requires.inside, c.loop-i-test.tr
 pub turn_number_8-requires-in-loop-i-2 : goal.turn_number_8-requires-in-loop-i-2
 turn_number_8-requires-in-loop-i-2 c =
     record {
-  inside = omega (arith, c.requires.inside, c.loop-i-test.true);
-  room = omega (arith, c.requires.room, c.loop-i.invariant.long, c.turn_number_8-in-loop-i.auto.out, c.turn_number_8.auto.out);
-}
+      inside = omega (arith, c.requires.inside, c.loop-i-test.true);
+      room = omega (arith, c.requires.room, c.loop-i.invariant.long, c.turn_number_8-in-loop-i.auto.out, c.turn_number_8.auto.out);
+    }
 
 pub overflow_add-p-in-loop-i-3 : goal.overflow_add-p-in-loop-i-3
 overflow_add-p-in-loop-i-3 c = omega (arith, c.requires.inside, c.loop-i-test.true)
@@ -50,9 +49,9 @@ overflow_add-p-in-loop-i-3 c = omega (arith, c.requires.inside, c.loop-i-test.tr
 pub turn_number_8-requires-in-loop-i-3 : goal.turn_number_8-requires-in-loop-i-3
 turn_number_8-requires-in-loop-i-3 c =
     record {
-  inside = omega (arith, c.requires.inside, c.loop-i-test.true);
-  room = omega (arith, c.requires.room, c.loop-i.invariant.long, c.turn_number_8-in-loop-i-2.auto.out, c.turn_number_8-in-loop-i.auto.out, c.turn_number_8.auto.out);
-}
+      inside = omega (arith, c.requires.inside, c.loop-i-test.true);
+      room = omega (arith, c.requires.room, c.loop-i.invariant.long, c.turn_number_8-in-loop-i-2.auto.out, c.turn_number_8-in-loop-i.auto.out, c.turn_number_8.auto.out);
+    }
 
 pub overflow_add-i-in-loop-i : goal.overflow_add-i-in-loop-i
 overflow_add-i-in-loop-i c = omega (arith, c.requires.inside, c.loop-i-test.true)
@@ -78,9 +77,9 @@ overflow_sub-n c = c.loop-i.invariant.most
 pub turn_rest_8-requires : goal.turn_rest_8-requires
 turn_rest_8-requires c =
     record {
-  inside = omega (arith, c.requires.inside, c.loop-i.invariant.most);
-  room = omega (arith, c.requires.room, c.loop-i.invariant.long);
-}
+      inside = omega (arith, c.requires.inside, c.loop-i.invariant.most);
+      room = omega (arith, c.requires.room, c.loop-i.invariant.long);
+    }
 
 pub shape_of-out : goal.shape_of-out
 shape_of-out c = c.turn_rest_8.auto.out ∙ c.loop-i.invariant.long

@@ -1,9 +1,7 @@
 -- `turn_run_8` meets its contract. The invariant: with the numbers that are left, the output becomes what is promised. The law over the
 -- width, at 8 bytes, four numbers in a turn.
-use mathlib.Core.Path.{◌∙◌}
 use Prim.Native.Nat.{◌-◌}
-use native.Mathlib.Omega.{arith}
-use Rattle.byte_order.proofs.RunTurns.{RunLoop, run-begin, run-four, run-rest}
+use Rattle.byte_order.proofs.RunTurns.{RunLoop}
 use Rattle.byte_order.proofs.runs.turn_run_8.Given as goal
 
 abbrev pub invariant-loop-i : goal.invariant-loop-i

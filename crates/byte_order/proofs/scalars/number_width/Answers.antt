@@ -2,7 +2,6 @@
 use mathlib.Core.Path.{sym, ap, ◌∙◌}
 use Prim.Native.Nat.{ℕ, ◌/◌}
 use Rattle.byte_order.specs.Reversal.{number_width}
-use borrow.Author.Rules.{rules}
 use Rattle.byte_order.proofs.scalars.number_width.Goals as goal
 
 pub returns-then-is_complex : goal.returns-then-is_complex

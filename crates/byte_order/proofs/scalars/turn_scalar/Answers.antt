@@ -5,7 +5,6 @@ use Prim.Native.Nat.{ℕ, ◌+◌, ◌/◌}
 use native.Mathlib.Omega.{arith}
 use Rattle.byte_order.specs.inner.Turning.{turned_at}
 use Rattle.byte_order.proofs.Widths.{complex-halved, real-whole, halves_run, whole_run}
-use borrow.Author.Rules.{rules}
 use Rattle.byte_order.proofs.scalars.turn_scalar.Goals as goal
 
 pub turn_number-requires : goal.turn_number-requires

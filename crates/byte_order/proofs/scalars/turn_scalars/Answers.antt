@@ -3,7 +3,6 @@ use mathlib.Core.Path.{sym, ◌∙◌}
 use native.Mathlib.Omega.{arith}
 use Rattle.byte_order.specs.inner.Turning.{turned_run}
 use Rattle.byte_order.proofs.Widths.{complex-halved, real-whole}
-use borrow.Author.Rules.{rules}
 use Rattle.byte_order.proofs.scalars.turn_scalars.Goals as goal
 
 pub overflow_mul-n : goal.overflow_mul-n

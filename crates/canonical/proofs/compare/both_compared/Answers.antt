@@ -1,5 +1,4 @@
 -- `both_compared` is the answer of two accepted descriptors. Assumes nothing.
-use borrow.Author.Rules.{rules}
 use Rattle.canonical.proofs.compare.both_compared.Goals as goal
 
 pub returns : goal.returns

@@ -4,7 +4,6 @@ use native.Mathlib.Omega.{arith}
 use borrow.Author.Tests.{not-true, not-false}
 use Rattle.descriptor.proofs.Checked.{judged-refused, judged-place}
 use Rattle.canonical.proofs.Judged.{judged-accepted, first-refused, second-refused, same-compared, differ-compared}
-use borrow.Author.Rules.{rules}
 use Rattle.canonical.proofs.compare.compare.Goals as goal
 
 pub not_compared-requires : goal.not_compared-requires

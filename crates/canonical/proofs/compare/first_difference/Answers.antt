@@ -1,10 +1,6 @@
 -- The answers to the goals of `first_difference`.
-use Prim.Native.Nat.{◌-◌}
 use native.Mathlib.Omega.{arith}
-use lib.ListN.{length}
-use Rattle.canonical.specs.inner.Walk.{SameFront}
 use Rattle.canonical.proofs.Fronts.{front-byte, front-all}
-use borrow.Author.Rules.{rules}
 use Rattle.canonical.proofs.compare.first_difference.Goals as goal
 
 pub loop-i-init : goal.loop-i-init

@@ -1,10 +1,7 @@
 -- `first_difference` goes on byte by byte from the front that is the same. The invariant: the bytes so far are the same. Rests on `Fronts`.
 use Prim.Native.Nat.{◌-◌}
-use native.Mathlib.Omega.{arith}
 use lib.ListN.{length}
 use Rattle.canonical.specs.inner.Walk.{SameFront}
-use Rattle.canonical.proofs.Fronts.{front-byte, front-all}
-use borrow.Author.Rules.{rules}
 use Rattle.canonical.proofs.compare.first_difference.Given as goal
 
 abbrev pub invariant-loop-i : goal.invariant-loop-i

@@ -1,10 +1,9 @@
 -- The answers to the goals of `is_reserved`.
 use mathlib.Core.Path.{ap}
-use Prim.Native.Nat.{ℕ, ◌+◌, ◌-◌}
+use Prim.Native.Nat.{ℕ, ◌+◌}
 use native.Mathlib.Omega.{arith}
-use lib.ListN.{length}
 use Rattle.canonical.proofs.Turns.{taken, turn-stands}
-use Rattle.canonical.proofs.Unlike.{Sought, sought-begin, telling-yes, sought-end, sought-turn, sought-past, sought-leaf, sought-body, sought-inside}
+use Rattle.canonical.proofs.Unlike.{sought-begin, telling-yes, sought-end, sought-turn, sought-past, sought-leaf, sought-body, sought-inside}
 use Rattle.canonical.proofs.compare.is_reserved.Goals as goal
 
 pub loop-k-init : goal.loop-k-init

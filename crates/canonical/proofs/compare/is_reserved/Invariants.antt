@@ -1,10 +1,7 @@
 -- `is_reserved` looks for the descriptor that q is in. The invariant: a no from here is a no from the start. Rests on `Unlike`.
-use mathlib.Core.Path.{ap}
-use Prim.Native.Nat.{ℕ, ◌+◌, ◌-◌}
-use native.Mathlib.Omega.{arith}
+use Prim.Native.Nat.{◌-◌}
 use lib.ListN.{length}
-use Rattle.canonical.proofs.Turns.{taken, turn-stands}
-use Rattle.canonical.proofs.Unlike.{Sought, sought-begin, telling-yes, sought-end, sought-turn, sought-past, sought-leaf, sought-body, sought-inside}
+use Rattle.canonical.proofs.Unlike.{Sought}
 use Rattle.canonical.proofs.compare.is_reserved.Given as goal
 
 abbrev pub invariant-loop-k : goal.invariant-loop-k

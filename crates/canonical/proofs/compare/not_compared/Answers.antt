@@ -1,6 +1,5 @@
 -- `not_compared` is the answer with the refusal. Assumes nothing.
 use mathlib.Core.Bool.{false}
-use borrow.Author.Rules.{rules}
 use Rattle.canonical.proofs.compare.not_compared.Goals as goal
 
 pub returns : goal.returns

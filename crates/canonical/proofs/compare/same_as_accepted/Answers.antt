@@ -2,11 +2,9 @@
 -- `Whole` and `Judged`.
 use mathlib.Core.Path.{sym, ◌∙◌}
 use native.Mathlib.Omega.{arith}
-use borrow.Author.Tests.{not-true}
 use Rattle.canonical.proofs.Fronts.{front-whole}
 use Rattle.canonical.proofs.Whole.{top-inside}
 use Rattle.canonical.proofs.Judged.{same-compared-bytes, lengths_differ, walk-decides}
-use borrow.Author.Rules.{rules}
 use Rattle.canonical.proofs.compare.same_as_accepted.Goals as goal
 
 pub returns-then-a-b : goal.returns-then-a-b

@@ -1,9 +1,6 @@
 -- The answers to the goals of `same_front`.
 use mathlib.Core.Path.{sym, ◌∙◌}
-use Prim.Native.Nat.{◌-◌}
 use native.Mathlib.Omega.{arith}
-use lib.ListN.{length}
-use Rattle.canonical.specs.inner.Walk.{SameFront}
 use Rattle.canonical.proofs.Fronts.{front-none, front-number}
 use Rattle.canonical.proofs.compare.same_front.Goals as goal
 

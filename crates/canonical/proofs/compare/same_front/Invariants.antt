@@ -1,10 +1,7 @@
 -- `same_front` compares eight bytes at a time, as numbers. The invariant: the bytes so far are the same. Rests on `Fronts`.
-use mathlib.Core.Path.{sym, ◌∙◌}
 use Prim.Native.Nat.{◌-◌}
-use native.Mathlib.Omega.{arith}
 use lib.ListN.{length}
 use Rattle.canonical.specs.inner.Walk.{SameFront}
-use Rattle.canonical.proofs.Fronts.{front-none, front-number}
 use Rattle.canonical.proofs.compare.same_front.Given as goal
 
 abbrev pub invariant-loop-i : goal.invariant-loop-i

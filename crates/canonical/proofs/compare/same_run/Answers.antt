@@ -1,7 +1,6 @@
 -- `same_run` is the kit's comparison of the two parts. Rests on `Same` and `Lists`.
 use mathlib.Core.Path.{sym, ap, ◌∙◌}
 use lib.Seq.{slice}
-use borrow.Author.Rules.{rules}
 use Rattle.canonical.specs.Equality.{same_chars}
 use Rattle.canonical.specs.inner.Walk.{same_run}
 use Rattle.canonical.proofs.Lists.{bool_same, part_slice}

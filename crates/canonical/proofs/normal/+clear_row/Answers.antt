@@ -1,13 +1,12 @@
 -- The answers to the goals of `+clear_row`.
 use mathlib.Core.Path.{sym, ap, ◌∙◌}
-use mathlib.Core.Logic.{⊎_elim}
-use Prim.Native.Nat.{ℕ, ◌+◌, ◌-◌, ◌<◌}
+use Prim.Native.Nat.{◌+◌, ◌-◌}
 use native.Mathlib.Omega.{arith}
 use lib.ListN.{length, set, length-set}
 use Rattle.descriptor.specs.inner.Standing.{standing_row, forest_of}
 use Rattle.canonical.specs.inner.Walk.{clear_forest}
 use Rattle.canonical.proofs.Turns.{Turn, Taken, taken, turn-stands, row-wider}
-use Rattle.canonical.proofs.Cleared.{ClearLoop, clear-begin, clear-here, clear-on, clear-end, clear-childless}
+use Rattle.canonical.proofs.Cleared.{clear-begin, clear-here, clear-on, clear-end, clear-childless}
 use Rattle.canonical.proofs.normal.+clear_row.Goals as goal
 use Rattle.canonical.proofs.normal.+clear_row.Goals.{then-children-gt0, else-children-gt0}
 
@@ -19,59 +18,59 @@ loop-i-init t c =
 pub size_at-size-requires : goal.size_at-size-requires
 size_at-size-requires t c =
     let here : Turn c.args.d.now (c.args.k - (c.loop-i.i + 1)) c.loop-i.p (length c.args.d.now) c.args.levels =
-      let g = c.args in
-      let l = c.loop-i in
-      clear-here g.d.now g.out.now l.out g.k g.start g.levels l.p l.i l.invariant c.loop-i-test.true in
+    let g = c.args in
+    let l = c.loop-i in
+    clear-here g.d.now g.out.now l.out g.k g.start g.levels l.p l.i l.invariant c.loop-i-test.true in
     let turn = here in omega (arith, turn.least, turn.fits, turn.rest.small)
 
 pub overflow_add-end : goal.overflow_add-end
 overflow_add-end t c =
     let here : Turn c.args.d.now (c.args.k - (c.loop-i.i + 1)) c.loop-i.p (length c.args.d.now) c.args.levels =
-      let g = c.args in
-      let l = c.loop-i in
-      clear-here g.d.now g.out.now l.out g.k g.start g.levels l.p l.i l.invariant c.loop-i-test.true in
+    let g = c.args in
+    let l = c.loop-i in
+    clear-here g.d.now g.out.now l.out g.k g.start g.levels l.p l.i l.invariant c.loop-i-test.true in
     let turn = here in omega (arith, turn.least, turn.fits, turn.rest.small, c.size_at-size.ensures.eq)
 
 pub reserved_at-requires : goal.reserved_at-requires
 reserved_at-requires t c =
     let here : Turn c.args.d.now (c.args.k - (c.loop-i.i + 1)) c.loop-i.p (length c.args.d.now) c.args.levels =
-      let g = c.args in
-      let l = c.loop-i in
-      clear-here g.d.now g.out.now l.out g.k g.start g.levels l.p l.i l.invariant c.loop-i-test.true in
+    let g = c.args in
+    let l = c.loop-i in
+    clear-here g.d.now g.out.now l.out g.k g.start g.levels l.p l.i l.invariant c.loop-i-test.true in
     let turn = here in omega (arith, turn.least, turn.fits, turn.rest.small)
 
 pub bounds-out-reserved_at : goal.bounds-out-reserved_at
 bounds-out-reserved_at t c =
     let here : Turn c.args.d.now (c.args.k - (c.loop-i.i + 1)) c.loop-i.p (length c.args.d.now) c.args.levels =
-      let g = c.args in
-      let l = c.loop-i in
-      clear-here g.d.now g.out.now l.out g.k g.start g.levels l.p l.i l.invariant c.loop-i-test.true in
+    let g = c.args in
+    let l = c.loop-i in
+    clear-here g.d.now g.out.now l.out g.k g.start g.levels l.p l.i l.invariant c.loop-i-test.true in
     let turn = here in omega (arith, c.reserved_at.ensures, turn.least, turn.fits, turn.rest.small, c.requires.d_in_bounds, c.loop-i.invariant.long)
 
 pub inside_of-f-requires : goal.inside_of-f-requires
 inside_of-f-requires t c =
     let here : Turn c.args.d.now (c.args.k - (c.loop-i.i + 1)) c.loop-i.p (length c.args.d.now) c.args.levels =
-      let g = c.args in
-      let l = c.loop-i in
-      clear-here g.d.now g.out.now l.out g.k g.start g.levels l.p l.i l.invariant c.loop-i-test.true in
+    let g = c.args in
+    let l = c.loop-i in
+    clear-here g.d.now g.out.now l.out g.k g.start g.levels l.p l.i l.invariant c.loop-i-test.true in
     turn-stands _ _ _ _ _ (here)
 
 pub overflow_sub-levels : goal.overflow_sub-levels
 overflow_sub-levels t c =
     let here : Turn c.args.d.now (c.args.k - (c.loop-i.i + 1)) c.loop-i.p (length c.args.d.now) c.args.levels =
-      let g = c.args in
-      let l = c.loop-i in
-      clear-here g.d.now g.out.now l.out g.k g.start g.levels l.p l.i l.invariant c.loop-i-test.true in
+    let g = c.args in
+    let l = c.loop-i in
+    clear-here g.d.now g.out.now l.out g.k g.start g.levels l.p l.i l.invariant c.loop-i-test.true in
     (here).deep
 
 pub clear_row-requires : goal.clear_row-requires
 clear_row-requires t c =
     let here : Turn c.args.d.now (c.args.k - (c.loop-i.i + 1)) c.loop-i.p (length c.args.d.now) c.args.levels =
-      let g = c.args in
-      let l = c.loop-i in
-      clear-here g.d.now g.out.now l.out g.k g.start g.levels l.p l.i l.invariant c.loop-i-test.true in
+    let g = c.args in
+    let l = c.loop-i in
+    clear-here g.d.now g.out.now l.out g.k g.start g.levels l.p l.i l.invariant c.loop-i-test.true in
     let there : Taken c.args.d.now (c.args.k - (c.loop-i.i + 1)) c.loop-i.p (length c.args.d.now) c.args.levels c.size_at-size.result c.inside_of-f.result =
-      taken _ _ _ _ _ _ _ (here) c.size_at-size.ensures.eq c.inside_of-f.ensures in
+    taken _ _ _ _ _ _ _ (here) c.size_at-size.ensures.eq c.inside_of-f.ensures in
     let l = c.loop-i in
     let k = there in (
       omega (arith, (here).deep, c.decreases),
@@ -87,11 +86,11 @@ loop-i-smaller t c = omega (arith, c.loop-i-test.true)
 pub loop-i-preserved : goal.loop-i-preserved
 loop-i-preserved t c =
     let here : Turn c.args.d.now (c.args.k - (c.loop-i.i + 1)) c.loop-i.p (length c.args.d.now) c.args.levels =
-      let g = c.args in
-      let l = c.loop-i in
-      clear-here g.d.now g.out.now l.out g.k g.start g.levels l.p l.i l.invariant c.loop-i-test.true in
+    let g = c.args in
+    let l = c.loop-i in
+    clear-here g.d.now g.out.now l.out g.k g.start g.levels l.p l.i l.invariant c.loop-i-test.true in
     let there : Taken c.args.d.now (c.args.k - (c.loop-i.i + 1)) c.loop-i.p (length c.args.d.now) c.args.levels c.size_at-size.result c.inside_of-f.result =
-      taken _ _ _ _ _ _ _ (here) c.size_at-size.ensures.eq c.inside_of-f.ensures in
+    taken _ _ _ _ _ _ _ (here) c.size_at-size.ensures.eq c.inside_of-f.ensures in
     let g = c.args in
     let l = c.loop-i in
     let f = c.inside_of-f.result in

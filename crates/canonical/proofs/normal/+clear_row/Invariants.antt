@@ -1,14 +1,7 @@
 -- `clear_row` clears descriptor by descriptor, and goes into each that has descriptors in it. The measure is the depth left.
 -- The invariant: what is cleared from here on is what is cleared from the start. Rests on `Turns` and `Cleared`.
-use mathlib.Core.Path.{sym, ap, ◌∙◌}
-use mathlib.Core.Logic.{⊎_elim}
-use Prim.Native.Nat.{ℕ, ◌+◌, ◌-◌, ◌<◌}
-use native.Mathlib.Omega.{arith}
-use lib.ListN.{length, set, length-set}
-use Rattle.descriptor.specs.inner.Standing.{standing_row, forest_of}
-use Rattle.canonical.specs.inner.Walk.{clear_forest}
-use Rattle.canonical.proofs.Turns.{Turn, Taken, taken, turn-stands, row-wider}
-use Rattle.canonical.proofs.Cleared.{ClearLoop, clear-begin, clear-here, clear-on, clear-end, clear-childless}
+use Prim.Native.Nat.{◌-◌}
+use Rattle.canonical.proofs.Cleared.{ClearLoop}
 use Rattle.canonical.proofs.normal.+clear_row.Given as goal
 
 abbrev pub decreases-clear_row : goal.decreases-clear_row

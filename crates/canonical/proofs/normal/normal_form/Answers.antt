@@ -4,7 +4,6 @@ use mathlib.Core.List.{◌++◌}
 use Rattle.std.proofs.Common.{length, drop}
 use Rattle.std.proofs.Math.Seq.{take-length}
 use native.Mathlib.Omega.{arith}
-use borrow.Author.Rules.{rules}
 use borrow.Author.Tests.{not-true, not-false}
 use Rattle.descriptor.specs.Output.{Written}
 use Rattle.descriptor.specs.inner.Standing.{standing_row, forest_of}

@@ -1,10 +1,7 @@
 -- `turn_column` meets its contract: one loop for each of the five widths.
 use mathlib.Core.Path.{◌≡◌, sym, ap, subst, ◌∙◌}
-use mathlib.Core.List.{List}
 use Prim.Native.Nat.{ℕ, ◌+◌}
-use native.Mathlib.Omega.{arith}
 use Rattle.columns.specs.inner.Columns.{turned_column, Spread}
-use borrow.Author.Rules.{rules}
 use Rattle.columns.proofs.column.turn_column.Goals as goal
 
 pub turn_column_8-requires : goal.turn_column_8-requires

@@ -1,9 +1,7 @@
 -- The answers to the goals of `turn_column_1`.
-use Prim.Native.Nat.{◌-◌}
 use native.Mathlib.Omega.{arith}
 use Rattle.byte_order.proofs.Reversing.{byte-turned}
-use Rattle.columns.proofs.ColumnTurns.{ColumnLoop, column-begin, column-here, column-next, column-end}
-use borrow.Author.Rules.{rules}
+use Rattle.columns.proofs.ColumnTurns.{column-begin, column-here, column-next, column-end}
 use Rattle.columns.proofs.column.turn_column_1.Goals as goal
 
 pub loop-i-init : goal.loop-i-init

@@ -1,9 +1,6 @@
 -- `turn_column_1` meets its contract. The invariant: with the bytes that are left, the output becomes what is promised.
 use Prim.Native.Nat.{◌-◌}
-use native.Mathlib.Omega.{arith}
-use Rattle.byte_order.proofs.Reversing.{byte-turned}
-use Rattle.columns.proofs.ColumnTurns.{ColumnLoop, column-begin, column-here, column-next, column-end}
-use borrow.Author.Rules.{rules}
+use Rattle.columns.proofs.ColumnTurns.{ColumnLoop}
 use Rattle.columns.proofs.column.turn_column_1.Given as goal
 
 abbrev pub invariant-loop-i : goal.invariant-loop-i

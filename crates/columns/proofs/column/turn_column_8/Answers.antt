@@ -1,8 +1,6 @@
 -- The answers to the goals of `turn_column_8`.
-use Prim.Native.Nat.{◌-◌}
 use native.Mathlib.Omega.{arith}
-use Rattle.columns.proofs.ColumnTurns.{ColumnLoop, column-begin, column-here, column-next, column-end}
-use borrow.Author.Rules.{rules}
+use Rattle.columns.proofs.ColumnTurns.{column-begin, column-here, column-next, column-end}
 use Rattle.columns.proofs.column.turn_column_8.Goals as goal
 
 pub loop-i-init : goal.loop-i-init

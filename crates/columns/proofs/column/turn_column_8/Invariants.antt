@@ -1,9 +1,7 @@
 -- `turn_column_8` meets its contract. The invariant: with the numbers that are left, the output becomes what is promised. The law over
 -- the width, at 8 bytes.
 use Prim.Native.Nat.{◌-◌}
-use native.Mathlib.Omega.{arith}
-use Rattle.columns.proofs.ColumnTurns.{ColumnLoop, column-begin, column-here, column-next, column-end}
-use borrow.Author.Rules.{rules}
+use Rattle.columns.proofs.ColumnTurns.{ColumnLoop}
 use Rattle.columns.proofs.column.turn_column_8.Given as goal
 
 abbrev pub invariant-loop-i : goal.invariant-loop-i

@@ -6,7 +6,6 @@ use native.Mathlib.Omega.{arith}
 use Rattle.columns.specs.inner.Columns.{turned_column}
 use Rattle.columns.proofs.ColumnTurns.{spread-as, halves-columns, whole-column}
 use Rattle.byte_order.proofs.Widths.{complex-halved, real-whole}
-use borrow.Author.Rules.{rules}
 use Rattle.columns.proofs.column.turn_scalar_column.Goals as goal
 
 pub turn_column-requires : goal.turn_column-requires

@@ -1,6 +1,5 @@
 -- The answers to the goals of `+common_row_common_width`.
 use mathlib.Core.Path.{sym, ap, ◌∙◌}
-use Prim.Native.Nat.{ℕ, ◌+◌, ◌-◌, ◌<◌}
 use native.Mathlib.Omega.{arith}
 use Rattle.descriptor.specs.Codes.{kind_of}
 use Rattle.descriptor.specs.Width.{width_of}
@@ -9,8 +8,7 @@ use Rattle.descriptor.proofs.Bodies.{header-room}
 use Rattle.flattened.proofs.Cases.{compound-inside, row_inside}
 use Rattle.flattened.proofs.Types.{type-deep}
 use Rattle.columns.specs.inner.Columns.{joined_width, common_width}
-use Rattle.columns.proofs.Numbers.{numbers-scalar, numbers-members, numbers-other, common-scalar, next-type, CommonLoop, common-begin, common-next, common-end}
-use borrow.Author.Rules.{rules}
+use Rattle.columns.proofs.Numbers.{numbers-scalar, numbers-members, numbers-other, common-scalar, next-type, common-begin, common-next, common-end}
 use Rattle.columns.proofs.even.+common_row_common_width.Goals as goal
 
 pub common_row-loop-i-init : goal.common_row-loop-i-init

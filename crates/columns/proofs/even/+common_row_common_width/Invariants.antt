@@ -1,17 +1,7 @@
 -- The common width of the numbers of a type and of a row of types. The measure is the depth left, twice, and one more for a row. The
 -- invariant: the width so far and the numbers that are left have the width of all. Rests on `Numbers`.
-use mathlib.Core.Path.{sym, ap, ◌∙◌}
-use Prim.Native.Nat.{ℕ, ◌+◌, ◌-◌, ◌<◌}
-use native.Mathlib.Omega.{arith}
-use Rattle.descriptor.specs.Codes.{kind_of}
-use Rattle.descriptor.specs.Width.{width_of}
-use Rattle.descriptor.specs.inner.Steps.{is_compound}
-use Rattle.descriptor.proofs.Bodies.{header-room}
-use Rattle.flattened.proofs.Cases.{compound-inside, row_inside}
-use Rattle.flattened.proofs.Types.{type-deep}
-use Rattle.columns.specs.inner.Columns.{joined_width, common_width}
-use Rattle.columns.proofs.Numbers.{numbers-scalar, numbers-members, numbers-other, common-scalar, next-type, CommonLoop, common-begin, common-next, common-end}
-use borrow.Author.Rules.{rules}
+use Prim.Native.Nat.{◌+◌, ◌-◌}
+use Rattle.columns.proofs.Numbers.{CommonLoop}
 use Rattle.columns.proofs.even.+common_row_common_width.Given as goal
 
 abbrev pub decreases-common_row : goal.decreases-common_row

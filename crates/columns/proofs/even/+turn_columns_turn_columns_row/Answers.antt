@@ -1,6 +1,5 @@
 -- The answers to the goals of `+turn_columns_turn_columns_row`.
-use mathlib.Core.Path.{sym, ap, subst, ◌∙◌}
-use Prim.Native.Nat.{ℕ, ◌+◌, ◌-◌, ◌<◌}
+use mathlib.Core.Path.{sym, ap, ◌∙◌}
 use native.Mathlib.Omega.{arith}
 use Rattle.descriptor.specs.Codes.{kind_of}
 use Rattle.descriptor.specs.Width.{width_of}
@@ -8,8 +7,7 @@ use Rattle.descriptor.specs.inner.Steps.{is_compound}
 use Rattle.descriptor.proofs.Bodies.{header-room}
 use Rattle.flattened.proofs.Cases.{compound-inside, row_inside}
 use Rattle.flattened.proofs.Types.{type-deep}
-use Rattle.columns.proofs.Numbers.{numbers-scalar, numbers-members, numbers-other, scalar-spread, scalar-columns, spread-numbers, columns-numbers, no-columns, next-type, ColumnsLoop, columns-begin, columns-here, columns-next, columns-end}
-use borrow.Author.Rules.{rules}
+use Rattle.columns.proofs.Numbers.{numbers-scalar, numbers-members, numbers-other, scalar-spread, scalar-columns, spread-numbers, columns-numbers, no-columns, next-type, columns-begin, columns-here, columns-next, columns-end}
 use Rattle.columns.proofs.even.+turn_columns_turn_columns_row.Goals as goal
 
 pub turn_columns-code_at-code-requires : goal.turn_columns-code_at-code-requires

@@ -1,16 +1,7 @@
 -- The columns of a type and of a row of types. The measure is the depth left, twice, and one more for a row. The invariant: with the columns
 -- that are left, the output becomes what is promised. Rests on `Numbers`.
-use mathlib.Core.Path.{sym, ap, subst, ◌∙◌}
-use Prim.Native.Nat.{ℕ, ◌+◌, ◌-◌, ◌<◌}
-use native.Mathlib.Omega.{arith}
-use Rattle.descriptor.specs.Codes.{kind_of}
-use Rattle.descriptor.specs.Width.{width_of}
-use Rattle.descriptor.specs.inner.Steps.{is_compound}
-use Rattle.descriptor.proofs.Bodies.{header-room}
-use Rattle.flattened.proofs.Cases.{compound-inside, row_inside}
-use Rattle.flattened.proofs.Types.{type-deep}
-use Rattle.columns.proofs.Numbers.{numbers-scalar, numbers-members, numbers-other, scalar-spread, scalar-columns, spread-numbers, columns-numbers, no-columns, next-type, ColumnsLoop, columns-begin, columns-here, columns-next, columns-end}
-use borrow.Author.Rules.{rules}
+use Prim.Native.Nat.{◌+◌, ◌-◌}
+use Rattle.columns.proofs.Numbers.{ColumnsLoop}
 use Rattle.columns.proofs.even.+turn_columns_turn_columns_row.Given as goal
 
 abbrev pub decreases-turn_columns : goal.decreases-turn_columns

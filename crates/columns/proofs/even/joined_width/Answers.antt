@@ -1,5 +1,5 @@
 -- `joined_width` meets its contract: by the two tests of its definition.
-use mathlib.Core.Path.{sym, ◌∙◌}
+use mathlib.Core.Path.{sym}
 use borrow.Author.Tests.{eq-eqb, ne_eqb}
 use Rattle.columns.specs.inner.Columns.{joined_width, mixed}
 use Rattle.columns.proofs.even.joined_width.Goals as goal

@@ -5,9 +5,8 @@ use native.Mathlib.Nat.{div-le_self}
 use native.Mathlib.Omega.{arith}
 use Rattle.flattened.specs.inner.Types.{type_at}
 use Rattle.columns.specs.inner.Columns.{numbers_in}
-use Rattle.columns.proofs.Blocks.{BlocksLoop, blocks-begin, blocks-fit, blocks-here, blocks-next, blocks_end}
+use Rattle.columns.proofs.Blocks.{blocks-begin, blocks-fit, blocks-here, blocks-next, blocks_end}
 use Rattle.columns.proofs.EvenTypes.{even-total, even-some}
-use borrow.Author.Rules.{rules}
 use Rattle.columns.proofs.even.turn_blocks.Goals as goal
 
 pub nonzero_div-most : goal.nonzero_div-most

@@ -1,13 +1,7 @@
 -- `turn_blocks` meets its contract. The invariant: with the elements that are left, the output becomes what is promised.
-use mathlib.Core.Path.{◌∙◌}
-use Prim.Native.Nat.{◌+◌, ◌/◌}
-use native.Mathlib.Nat.{div-le_self}
-use native.Mathlib.Omega.{arith}
 use Rattle.flattened.specs.inner.Types.{type_at}
 use Rattle.columns.specs.inner.Columns.{numbers_in}
-use Rattle.columns.proofs.Blocks.{BlocksLoop, blocks-begin, blocks-fit, blocks-here, blocks-next, blocks_end}
-use Rattle.columns.proofs.EvenTypes.{even-total, even-some}
-use borrow.Author.Rules.{rules}
+use Rattle.columns.proofs.Blocks.{BlocksLoop}
 use Rattle.columns.proofs.even.turn_blocks.Given as goal
 
 abbrev pub invariant-loop-rest : goal.invariant-loop-rest

@@ -3,7 +3,6 @@ use mathlib.Core.Path.{◌∙◌}
 use native.Mathlib.Omega.{arith}
 use Rattle.columns.specs.inner.Columns.{mixed}
 use Rattle.columns.proofs.EvenTypes.{one-wide, one-some, one_size, one-few, one-run}
-use borrow.Author.Rules.{rules}
 use Rattle.columns.proofs.even.turn_even.Goals as goal
 
 pub nonzero_div-step : goal.nonzero_div-step
@@ -21,10 +20,13 @@ overflow_mul-n c =
 pub turn_run-requires : goal.turn_run-requires
 unfolding mixed
 turn_run-requires c =
-    let a = c.args in record { number_wide = one-wide a.d.now a.p a.left c.requires.type_stands a.step c.requires.even _ c.common_width-w.ensures c.if-w-ne-MIXED.true; room = record {
+    let a = c.args in record {
+      number_wide = one-wide a.d.now a.p a.left c.requires.type_stands a.step c.requires.even _ c.common_width-w.ensures c.if-w-ne-MIXED.true;
+      room = record {
         inside = omega (arith, one_size a.d.now a.p a.left c.requires.type_stands a.step c.requires.even _ c.common_width-w.ensures c.if-w-ne-MIXED.true a.n, c.requires.laid.inside);
         room = c.requires.laid.room;
-      } }
+      };
+    }
 
 pub returns-then-w-ne-MIXED : goal.returns-then-w-ne-MIXED
 unfolding mixed

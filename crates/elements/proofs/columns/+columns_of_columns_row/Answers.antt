@@ -1,7 +1,5 @@
 -- The answers to the goals of `+columns_of_columns_row`.
-use borrow.Author.Rules.{rules}
 use mathlib.Core.Path.{sym, ap, ◌∙◌}
-use Prim.Native.Nat.{ℕ, ◌+◌, ◌-◌, ◌<◌}
 use native.Mathlib.Omega.{arith}
 use Rattle.descriptor.specs.Codes.{kind_of}
 use Rattle.descriptor.specs.Width.{width_of}
@@ -11,7 +9,7 @@ use Rattle.flattened.specs.inner.Order.{order_of}
 use Rattle.flattened.proofs.Cases.{compound-inside, row_inside}
 use Rattle.flattened.proofs.Types.{type-deep}
 use Rattle.elements.proofs.Placing.{roomy-fewer}
-use Rattle.elements.proofs.Keeping.{kept-members, kept-other, ahead-inside, definite-inside, RowLoop, row-begin, next-turn, here-definite, next-least, row_next, row_kept}
+use Rattle.elements.proofs.Keeping.{kept-members, kept-other, ahead-inside, definite-inside, row-begin, next-turn, here-definite, next-least, row_next, row_kept}
 use Rattle.elements.proofs.columns.+columns_of_columns_row.Goals as goal
 
 pub columns_of-code_at-code-requires : goal.columns_of-code_at-code-requires
@@ -70,8 +68,7 @@ columns_row-loop-i-init t c = let a = c.args in row-begin a.d.now a.k a.start a.
 pub columns_row-columns_of-count-requires : goal.columns_row-columns_of-count-requires
 columns_row-columns_of-count-requires t c =
     let a = c.args in
-    let l = c.loop-i in
-    (
+    let l = c.loop-i in (
       omega (arith, c.decreases),
       (
         (next-turn a.d.now a.k a.start a.left a.before (order_of a.o) a.s.now a.whole a.from.at a.n l.p l.front l.count l.i l.invariant c.loop-i-test.true).first,

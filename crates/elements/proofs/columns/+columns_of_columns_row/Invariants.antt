@@ -1,18 +1,8 @@
 -- The columns of a type and of a row of types. The measure is the depth left, twice, and one more for a row. The invariant: where the types
 -- that are left are kept, all are. Rests on `Keeping`.
-use borrow.Author.Rules.{rules}
-use mathlib.Core.Path.{sym, ap, ◌∙◌}
-use Prim.Native.Nat.{ℕ, ◌+◌, ◌-◌, ◌<◌}
-use native.Mathlib.Omega.{arith}
-use Rattle.descriptor.specs.Codes.{kind_of}
-use Rattle.descriptor.specs.Width.{width_of}
-use Rattle.descriptor.specs.inner.Steps.{is_compound}
-use Rattle.descriptor.proofs.Bodies.{header-room}
+use Prim.Native.Nat.{◌+◌, ◌-◌}
 use Rattle.flattened.specs.inner.Order.{order_of}
-use Rattle.flattened.proofs.Cases.{compound-inside, row_inside}
-use Rattle.flattened.proofs.Types.{type-deep}
-use Rattle.elements.proofs.Placing.{roomy-fewer}
-use Rattle.elements.proofs.Keeping.{kept-members, kept-other, ahead-inside, definite-inside, RowLoop, row-begin, next-turn, here-definite, next-least, row_next, row_kept}
+use Rattle.elements.proofs.Keeping.{RowLoop}
 use Rattle.elements.proofs.columns.+columns_of_columns_row.Given as goal
 
 abbrev pub decreases-columns_of : goal.decreases-columns_of

@@ -1,14 +1,10 @@
 -- `across` meets its contract: the bytes before, the length word, the characters and the bytes after, each by a step of the cursor.
-use mathlib.Core.Path.{sym, ap, ◌∙◌}
-use Prim.Native.Nat.{ℕ, ◌+◌}
+use mathlib.Core.Path.{sym, ◌∙◌}
 use native.Mathlib.Omega.{arith}
-use lib.ListN.{length}
-use Rattle.flattened.specs.Order.{number_at}
 use Rattle.flattened.specs.inner.Order.{order_of}
 use Rattle.flattened.specs.inner.Columns.{ArrivesAt}
 use Rattle.flattened.proofs.Steps.{word_read, skip-to}
 use Rattle.elements.proofs.Crossing.{across-end}
-use borrow.Author.Rules.{rules}
 use Rattle.elements.proofs.columns.across.Goals as goal
 
 pub returns-in_default : goal.returns-in_default

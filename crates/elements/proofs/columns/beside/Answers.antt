@@ -6,7 +6,6 @@ use Rattle.descriptor.proofs.Steps.{impossible}
 use Rattle.flattened.specs.declared.extent.Extent.{Extent}
 use Rattle.elements.specs.inner.Placing.{Beside}
 use Rattle.elements.proofs.Placing.{beside-before, beside-after}
-use borrow.Author.Rules.{rules}
 use Rattle.elements.proofs.columns.beside.Goals as goal
 
 pub returns-then-before-w : goal.returns-then-before-w

@@ -4,7 +4,6 @@ use Rattle.flattened.specs.inner.Order.{order_of}
 use Rattle.flattened.specs.inner.Columns.{EachBelow}
 use Rattle.flattened.specs.declared.extent.Extent.{Extent}
 use Rattle.elements.specs.inner.Placing.{Roomy}
-use borrow.Author.Rules.{rules}
 use Rattle.elements.proofs.columns.column.Goals as goal
 
 pub column_fixed-requires : goal.column_fixed-requires

@@ -1,13 +1,11 @@
 -- The answers to the goals of `column_around`.
 use mathlib.Core.Path.{subst}
-use Prim.Native.Nat.{ℕ, ◌-◌, ◌<◌}
+use Prim.Native.Nat.{ℕ, ◌<◌}
 use native.Mathlib.Omega.{arith}
-use borrow.Author.Rules.{rules}
-use borrow.Author.Tests.{not-false}
 use Rattle.flattened.specs.inner.Order.{order_of}
 use Rattle.flattened.specs.inner.Columns.{ArrivesAt, Across}
 use Rattle.flattened.specs.declared.cursor.Skip.{Skip}
-use Rattle.elements.proofs.Placing.{ColumnLoop, column-begin, column-next}
+use Rattle.elements.proofs.Placing.{column-begin, column-next}
 use Rattle.elements.proofs.columns.column_around.Goals as goal
 
 pub returns-then-not-beside : goal.returns-then-not-beside

@@ -1,13 +1,7 @@
 -- `column_around` meets its contract. The invariant: the numbers looked at are below the limit.
-use mathlib.Core.Path.{subst}
-use Prim.Native.Nat.{ℕ, ◌-◌, ◌<◌}
-use native.Mathlib.Omega.{arith}
-use borrow.Author.Rules.{rules}
-use borrow.Author.Tests.{not-false}
+use Prim.Native.Nat.{◌-◌}
 use Rattle.flattened.specs.inner.Order.{order_of}
-use Rattle.flattened.specs.inner.Columns.{ArrivesAt, Across}
-use Rattle.flattened.specs.declared.cursor.Skip.{Skip}
-use Rattle.elements.proofs.Placing.{ColumnLoop, column-begin, column-next}
+use Rattle.elements.proofs.Placing.{ColumnLoop}
 use Rattle.elements.proofs.columns.column_around.Given as goal
 
 abbrev pub invariant-loop-count : goal.invariant-loop-count

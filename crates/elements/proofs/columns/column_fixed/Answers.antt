@@ -7,7 +7,6 @@ use Rattle.flattened.specs.declared.extent.Extent.{Extent}
 use Rattle.elements.specs.inner.Placing.{BelowFixed}
 use Rattle.elements.proofs.Maxima.{fewer-within}
 use Rattle.elements.proofs.Placing.{fixed-below}
-use borrow.Author.Rules.{rules}
 use Rattle.elements.proofs.columns.column_fixed.Goals as goal
 
 pub overflow_add-at : goal.overflow_add-at
@@ -18,8 +17,7 @@ overflow_add-at c =
 
 pub returns : goal.returns
 returns c =
-    let a = c.args in
-    (
+    let a = c.args in (
       c.low.ensures.0,
       subst (λ (x : Extent). BelowFixed (order_of a.o) a.s.now x a.step a.at a.w a.limit c.low.result) (sym c.in-Fixed.is)
           (fixed-below (order_of a.o) a.s.now _ _ _ a.step a.at a.w a.limit c.low.result c.low.ensures.1),

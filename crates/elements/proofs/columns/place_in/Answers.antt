@@ -5,7 +5,6 @@ use Prim.Native.Nat.{◌+◌, ◌-◌}
 use Rattle.flattened.specs.declared.extent.Extent.{Extent}
 use Rattle.elements.specs.inner.Placing.{Beside, StandsIn}
 use Rattle.elements.proofs.Placing.{stands-before, stands_after}
-use borrow.Author.Rules.{rules}
 use Rattle.elements.proofs.columns.place_in.Goals as goal
 
 pub overflow_add-result : goal.overflow_add-result

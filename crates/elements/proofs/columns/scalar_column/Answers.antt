@@ -4,7 +4,6 @@ use native.Mathlib.Omega.{arith}
 use Rattle.flattened.specs.inner.Order.{order_of}
 use Rattle.flattened.proofs.Cases.{rule-narrow}
 use Rattle.elements.proofs.Keeping.{each-any, each_below}
-use borrow.Author.Rules.{rules}
 use Rattle.elements.proofs.columns.scalar_column.Goals as goal
 
 pub column-requires : goal.column-requires

@@ -6,7 +6,6 @@ use Rattle.flattened.specs.Order.{Order, big}
 use Rattle.flattened.specs.inner.Order.{order_of}
 use Rattle.elements.specs.inner.Largest.{largest, Apart}
 use Rattle.elements.proofs.Maxima.{largest-bytes}
-use borrow.Author.Rules.{rules}
 use Rattle.elements.proofs.largest.largest.Goals as goal
 
 -- at the width and the step that were found

@@ -1,8 +1,7 @@
 -- The answers to the goals of `largest_1`.
 use borrow.Author.Rules.{rules}
 use mathlib.Core.Path.{◌≡◌, refl, sym, ap, ◌∙◌}
-use mathlib.Core.Logic.{⊎_elim}
-use Prim.Native.Nat.{◌-◌, ◌≤◌, ◌+◌, ◌*◌, max}
+use Prim.Native.Nat.{◌+◌, ◌*◌, max}
 use native.Mathlib.Omega.{arith}
 use lib.ListN.{length, get_or}
 use Rattle.flattened.specs.Order.{big}

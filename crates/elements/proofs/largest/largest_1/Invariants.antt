@@ -1,14 +1,8 @@
 -- `largest_1` meets its contract. The invariant: the largest of the bytes passed. The law over the width, at one byte.
-use borrow.Author.Rules.{rules}
-use mathlib.Core.Path.{◌≡◌, refl, sym, ap, ◌∙◌}
-use mathlib.Core.Logic.{⊎_elim}
-use Prim.Native.Nat.{◌-◌, ◌≤◌, ◌+◌, ◌*◌, max}
-use native.Mathlib.Omega.{arith}
-use lib.ListN.{length, get_or}
+use mathlib.Core.Path.{◌≡◌}
+use Prim.Native.Nat.{◌-◌, ◌≤◌}
 use Rattle.flattened.specs.Order.{big}
 use Rattle.elements.specs.inner.Largest.{largest}
-use Rattle.flattened.proofs.Judged.{byte-number}
-use Rattle.elements.proofs.Maxima.{apart-here, largest-turn}
 use Rattle.elements.proofs.largest.largest_1.Given as goal
 
 abbrev pub invariant-loop-i : goal.invariant-loop-i

@@ -1,13 +1,8 @@
 -- `largest_4` meets its contract. The invariant: the largest of the numbers passed. The law over the width, at four bytes.
-use borrow.Author.Rules.{rules}
-use mathlib.Core.Path.{◌≡◌, refl, ap, ◌∙◌}
-use mathlib.Core.Logic.{⊎_elim}
-use Prim.Native.Nat.{◌-◌, ◌≤◌, max}
-use native.Mathlib.Omega.{arith}
-use lib.ListN.{length}
+use mathlib.Core.Path.{◌≡◌}
+use Prim.Native.Nat.{◌-◌, ◌≤◌}
 use Rattle.flattened.specs.inner.Order.{order_of}
 use Rattle.elements.specs.inner.Largest.{largest}
-use Rattle.elements.proofs.Maxima.{apart-here, largest-turn}
 use Rattle.elements.proofs.largest.largest_4.Given as goal
 
 abbrev pub invariant-loop-i : goal.invariant-loop-i

@@ -1,11 +1,8 @@
 -- The answers to the goals of `low`.
-use Prim.Native.Nat.{◌+◌, ◌-◌, ◌≤◌, ◌<◌}
 use native.Mathlib.Omega.{arith}
 use lib.ListN.{length}
 use Rattle.flattened.specs.inner.Order.{order_of}
-use Rattle.elements.specs.inner.Largest.{EachLow}
 use Rattle.elements.proofs.Maxima.{apart-here, apart_more, low-more}
-use borrow.Author.Rules.{rules}
 use Rattle.elements.proofs.largest.low.Goals as goal
 
 pub loop-count-init : goal.loop-count-init

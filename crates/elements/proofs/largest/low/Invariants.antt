@@ -1,11 +1,7 @@
 -- `low` meets its contract. The invariant: those counted are each below the limit.
-use Prim.Native.Nat.{◌+◌, ◌-◌, ◌≤◌, ◌<◌}
-use native.Mathlib.Omega.{arith}
-use lib.ListN.{length}
+use Prim.Native.Nat.{◌-◌, ◌≤◌, ◌<◌}
 use Rattle.flattened.specs.inner.Order.{order_of}
 use Rattle.elements.specs.inner.Largest.{EachLow}
-use Rattle.elements.proofs.Maxima.{apart-here, apart_more, low-more}
-use borrow.Author.Rules.{rules}
 use Rattle.elements.proofs.largest.low.Given as goal
 
 abbrev pub invariant-loop-count : goal.invariant-loop-count

@@ -1,11 +1,9 @@
 -- The answers to the goals of `low_within`.
-use Prim.Native.Nat.{◌+◌, ◌/◌, ◌≤◌}
+use Prim.Native.Nat.{◌/◌}
 use native.Mathlib.Omega.{arith}
 use lib.ListN.{length}
 use Rattle.flattened.specs.inner.Order.{order_of}
-use Rattle.elements.specs.inner.Largest.{EachLow}
 use Rattle.elements.proofs.Maxima.{apart-here, apart_more, each-low, low-more}
-use borrow.Author.Rules.{rules}
 use Rattle.elements.proofs.largest.low_within.Goals as goal
 
 pub largest-requires : goal.largest-requires

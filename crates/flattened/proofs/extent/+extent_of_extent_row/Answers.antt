@@ -1,9 +1,6 @@
 -- The answers to the goals of `+extent_of_extent_row`.
-use borrow.Author.Rules.{rules}
 use mathlib.Core.Path.{◌≡◌, sym, ap, ◌∙◌}
 use Rattle.descriptor.specs.Header.{code_in}
-use mathlib.Core.List.{[], ◌∷◌}
-use Prim.Native.Nat.{◌+◌, ◌-◌, ℕ, ◌<◌}
 use native.Mathlib.Omega.{arith}
 use Rattle.descriptor.specs.Codes.{string, kind_of}
 use Rattle.descriptor.specs.Header.{size_in}
@@ -12,12 +9,11 @@ use Rattle.descriptor.specs.inner.Steps.{kind_is, is_compound}
 use Rattle.descriptor.specs.declared.codes.Kind.TheVariants as kinds
 use Rattle.descriptor.proofs.CodeKinds.{kind_named, known}
 use Rattle.descriptor.proofs.Bodies.{header-room}
-use Rattle.flattened.specs.inner.Extent.{judges, joint}
+use Rattle.flattened.specs.inner.Extent.{judges}
 use Rattle.flattened.specs.declared.extent.Extent.TheVariants.{Fixed}
-use Rattle.flattened.proofs.Named.{not-kind}
 use Rattle.flattened.proofs.Cases.{compound-inside, row_inside, extent-number, extent-text, extent-members, extent-other}
 use Rattle.flattened.proofs.Types.{type-deep}
-use Rattle.flattened.proofs.ExtentTurns.{small_least, ExtentLoop, extent-begin, extent-turn, extent-few, extent-next, extent-done}
+use Rattle.flattened.proofs.ExtentTurns.{small_least, extent-begin, extent-turn, extent-few, extent-next, extent-done}
 use Rattle.flattened.proofs.extent.+extent_of_extent_row.Goals as goal
 
 pub extent_of-code_at-code-requires : goal.extent_of-code_at-code-requires

@@ -1,7 +1,6 @@
 -- `judges` meets its contract, rule by rule.
 use mathlib.Core.Path.{sym, ap}
 use Rattle.flattened.specs.inner.Extent.{judges}
-use borrow.Author.Rules.{rules}
 use Rattle.flattened.proofs.extent.judges.Goals as goal
 
 pub returns-in-Any : goal.returns-in-Any

@@ -1,8 +1,6 @@
 -- `rule_of` meets its contract: an enumeration has items, any other code no rule.
 use mathlib.Core.Path.{◌≡◌, sym, ap, ◌∙◌}
 use Prim.Native.Nat.{ℕ}
-use borrow.Author.Rules.{rules}
-use borrow.Author.Tests.{not-true, not-false}
 use Rattle.descriptor.specs.Codes.{enumeration, kind_of}
 use Rattle.descriptor.specs.inner.Steps.{is_enumeration}
 use Rattle.descriptor.proofs.CodeKinds.{enumeration-is}

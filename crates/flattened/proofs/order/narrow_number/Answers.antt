@@ -5,7 +5,6 @@ use native.Mathlib.Omega.{arith}
 use Rattle.flattened.specs.Order.{number_at}
 use Rattle.flattened.specs.inner.Order.{order_of}
 use Rattle.flattened.proofs.Judged.{byte-number}
-use borrow.Author.Rules.{rules}
 use Rattle.flattened.proofs.order.narrow_number.Goals as goal
 
 pub overflow_cast-result : goal.overflow_cast-result

@@ -1,7 +1,6 @@
 -- `number_4` meets its contract by the law of swapped numbers at its width.
 use native.Mathlib.Omega.{arith}
 use Rattle.flattened.proofs.Swapped.{number-big, number-little}
-use borrow.Author.Rules.{rules}
 use Rattle.flattened.proofs.order.number_4.Goals as goal
 
 pub returns-in-Big : goal.returns-in-Big

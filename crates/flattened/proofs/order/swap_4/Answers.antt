@@ -4,7 +4,6 @@ use Prim.Native.Nat.{◌/◌}
 use native.Mathlib.Nat.{div-div-eq-div-mul}
 use native.Mathlib.Omega.{arith}
 use Rattle.flattened.specs.inner.Order.{swapped}
-use borrow.Author.Rules.{rules}
 use Rattle.flattened.proofs.order.swap_4.Goals as goal
 
 pub returns : goal.returns

@@ -5,7 +5,6 @@ use Rattle.flattened.specs.inner.Order.{order_of}
 use Rattle.flattened.proofs.Steps.{skip-to, skip-cut}
 use Rattle.flattened.proofs.Cases.{rule-narrow}
 use Rattle.flattened.proofs.Scalars.{scalar-cut, scalar-any, scalar-kept, scalar-refused}
-use borrow.Author.Rules.{rules}
 use Rattle.flattened.proofs.scalar.scalar.Goals as goal
 
 pub skip-requires : goal.skip-requires

@@ -1,12 +1,11 @@
 -- The answers to the goals of `size_words`.
-use borrow.Author.Rules.{rules}
 use mathlib.Core.Path.{sym, ap, ◌∙◌}
-use Prim.Native.Nat.{ℕ, ◌*◌, ◌-◌, min}
+use Prim.Native.Nat.{ℕ, ◌*◌, min}
 use native.Mathlib.Omega.{arith}
 use Rattle.flattened.specs.inner.Order.{order_of}
 use Rattle.flattened.specs.inner.Sizes.{element_cap}
 use Rattle.flattened.proofs.Steps.{skip-to, skip-cut}
-use Rattle.flattened.proofs.Products.{SizesLoop, sizes_begin, sizes-next, sizes-over, sizes-done, sizes-cut}
+use Rattle.flattened.proofs.Products.{sizes_begin, sizes-next, sizes-over, sizes-done, sizes-cut}
 use Rattle.flattened.proofs.sizes.size_words.Goals as goal
 
 pub returns-in_default : goal.returns-in_default

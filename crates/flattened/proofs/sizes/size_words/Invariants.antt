@@ -1,12 +1,7 @@
 -- `size_words` meets its contract. The invariant: the sizes that are left, and the capped product so far, stand for all.
-use borrow.Author.Rules.{rules}
-use mathlib.Core.Path.{sym, ap, ◌∙◌}
-use Prim.Native.Nat.{ℕ, ◌*◌, ◌-◌, min}
-use native.Mathlib.Omega.{arith}
+use Prim.Native.Nat.{◌-◌}
 use Rattle.flattened.specs.inner.Order.{order_of}
-use Rattle.flattened.specs.inner.Sizes.{element_cap}
-use Rattle.flattened.proofs.Steps.{skip-to, skip-cut}
-use Rattle.flattened.proofs.Products.{SizesLoop, sizes_begin, sizes-next, sizes-over, sizes-done, sizes-cut}
+use Rattle.flattened.proofs.Products.{SizesLoop}
 use Rattle.flattened.proofs.sizes.size_words.Given as goal
 
 abbrev pub invariant-loop-i : goal.invariant-loop-i

@@ -1,16 +1,13 @@
 -- The answers to the goals of `texts`.
-use borrow.Author.Rules.{rules}
 use mathlib.Core.Path.{◌≡◌, sym, ap, ◌∙◌}
-use Prim.Native.Nat.{ℕ, ◌-◌, ◌≤◌}
+use Prim.Native.Nat.{ℕ}
 use native.Mathlib.Omega.{arith}
-use lib.ListN.{length}
 use Rattle.flattened.specs.Walk.{text_at}
 use Rattle.flattened.specs.inner.Order.{order_of}
-use Rattle.flattened.specs.inner.Progress.{progress}
 use Rattle.flattened.specs.declared.progress.Progress.TheVariants.{Walked}
 use Rattle.flattened.proofs.Steps.{word_read, word_cut, skip-to, skip-cut}
 use Rattle.flattened.proofs.Strings.{text-none, text-long, text-cut, text-whole}
-use Rattle.flattened.proofs.Turns.{RepeatLoop, repeat-begin, repeat-next, repeat-stop, repeat-end}
+use Rattle.flattened.proofs.Turns.{repeat-begin, repeat-next, repeat-stop, repeat-end}
 use Rattle.flattened.proofs.texts.texts.Goals as goal
 
 pub loop-i-init : goal.loop-i-init

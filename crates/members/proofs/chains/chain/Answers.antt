@@ -1,10 +1,8 @@
 -- The answers to the goals of `chain`.
 use mathlib.Core.Path.{refl, sym, subst}
-use mathlib.Core.Logic.{⊎_elim}
 use mathlib.Core.List.{List}
-use Prim.Native.Nat.{ℕ, ◌+◌, ◌-◌}
+use Prim.Native.Nat.{ℕ, ◌+◌}
 use native.Mathlib.Omega.{arith}
-use borrow.Author.Rules.{rules}
 use Rattle.members.specs.inner.Names.{NameFits}
 use Rattle.members.proofs.Chaining.{ChainLoop, chain-begin, chain-unnamed, chain-again, chain-done}
 use Rattle.members.proofs.chains.chain.Goals as goal

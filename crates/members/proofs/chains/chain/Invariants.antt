@@ -1,12 +1,6 @@
 -- `chain` goes over the names of the members. Rests on `Chaining`.
-use mathlib.Core.Path.{refl, sym, subst}
-use mathlib.Core.Logic.{⊎_elim}
-use mathlib.Core.List.{List}
-use Prim.Native.Nat.{ℕ, ◌+◌, ◌-◌}
-use native.Mathlib.Omega.{arith}
-use borrow.Author.Rules.{rules}
-use Rattle.members.specs.inner.Names.{NameFits}
-use Rattle.members.proofs.Chaining.{ChainLoop, chain-begin, chain-unnamed, chain-again, chain-done}
+use Prim.Native.Nat.{◌-◌}
+use Rattle.members.proofs.Chaining.{ChainLoop}
 use Rattle.members.proofs.chains.chain.Given as goal
 
 abbrev pub invariant-loop-i : goal.invariant-loop-i

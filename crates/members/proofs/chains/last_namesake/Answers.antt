@@ -2,9 +2,8 @@
 use mathlib.Core.Path.{refl, sym, subst}
 use Prim.Native.Nat.{ℕ, ◌-◌}
 use native.Mathlib.Omega.{arith}
-use borrow.Author.Rules.{rules}
 use Rattle.members.specs.inner.Names.{chars_at, NameFits}
-use Rattle.members.proofs.Chaining.{Follows, follow-found, follow-again, follow-less, follow-none}
+use Rattle.members.proofs.Chaining.{follow-found, follow-again, follow-less, follow-none}
 use Rattle.members.proofs.chains.last_namesake.Goals as goal
 
 pub loop-i-init : goal.loop-i-init

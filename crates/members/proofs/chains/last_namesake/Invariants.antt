@@ -1,10 +1,6 @@
 -- `last_namesake` follows the links. Rests on `Chaining`.
-use mathlib.Core.Path.{refl, sym, subst}
-use Prim.Native.Nat.{ℕ, ◌-◌}
-use native.Mathlib.Omega.{arith}
-use borrow.Author.Rules.{rules}
-use Rattle.members.specs.inner.Names.{chars_at, NameFits}
-use Rattle.members.proofs.Chaining.{Follows, follow-found, follow-again, follow-less, follow-none}
+use Rattle.members.specs.inner.Names.{chars_at}
+use Rattle.members.proofs.Chaining.{Follows}
 use Rattle.members.proofs.chains.last_namesake.Given as goal
 
 abbrev pub invariant-loop-i : goal.invariant-loop-i

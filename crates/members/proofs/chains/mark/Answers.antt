@@ -1,7 +1,6 @@
 -- `mark` reads the characters at either end as words. Rests on `Chaining`.
 use mathlib.Core.Path.{ap₂, ◌∙◌}
 use native.Mathlib.Omega.{arith}
-use borrow.Author.Rules.{rules}
 use Rattle.members.specs.inner.Chains.{spread}
 use Rattle.members.proofs.Chaining.{few_bytes, mark-short, mark-long}
 use Rattle.members.proofs.chains.mark.Goals as goal

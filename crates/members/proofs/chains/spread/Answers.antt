@@ -1,7 +1,6 @@
 -- `spread` meets its contract by computing.
 use mathlib.Core.Path.{refl}
 use native.Mathlib.Omega.{arith}
-use borrow.Author.Rules.{rules}
 use Rattle.members.specs.inner.Chains.{spread}
 use Rattle.members.proofs.chains.spread.Goals as goal
 

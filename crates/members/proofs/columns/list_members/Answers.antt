@@ -1,10 +1,9 @@
 -- The answers to the goals of `list_members`.
 use mathlib.Core.Path.{ap}
-use Prim.Native.Nat.{ℕ, ◌+◌, ◌-◌}
+use Prim.Native.Nat.{ℕ, ◌+◌}
 use native.Mathlib.Omega.{arith}
-use borrow.Author.Rules.{rules}
 use Rattle.descriptor.proofs.Bodies.{header-room}
-use Rattle.members.proofs.Listing.{ListLoop, list-begin, list-inner, list-size, list-again, list-places, list-names}
+use Rattle.members.proofs.Listing.{list-begin, list-inner, list-size, list-again, list-places, list-names}
 use Rattle.members.proofs.columns.list_members.Goals as goal
 
 pub loop-i-init : goal.loop-i-init

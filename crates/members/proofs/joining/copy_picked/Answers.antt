@@ -1,8 +1,6 @@
 -- The answers to the goals of `copy_picked`.
-use Prim.Native.Nat.{◌-◌}
 use native.Mathlib.Omega.{arith}
-use borrow.Author.Rules.{rules}
-use Rattle.members.proofs.Joined.{CopyLoop, copy_begin, copy-long, copy-index, copy-order, copy-inside, copy-room, copy-fits, copy-again, copy_done}
+use Rattle.members.proofs.Joined.{copy_begin, copy-long, copy-index, copy-order, copy-room, copy-fits, copy-again, copy_done}
 use Rattle.members.proofs.joining.copy_picked.Goals as goal
 
 pub loop-j-init : goal.loop-j-init

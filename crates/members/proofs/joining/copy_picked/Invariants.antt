@@ -1,8 +1,6 @@
 -- `copy_picked` copies one member's bytes after another's. Rests on `Joined`.
 use Prim.Native.Nat.{◌-◌}
-use native.Mathlib.Omega.{arith}
-use borrow.Author.Rules.{rules}
-use Rattle.members.proofs.Joined.{CopyLoop, copy_begin, copy-long, copy-index, copy-order, copy-inside, copy-room, copy-fits, copy-again, copy_done}
+use Rattle.members.proofs.Joined.{CopyLoop}
 use Rattle.members.proofs.joining.copy_picked.Given as goal
 
 abbrev pub invariant-loop-j : goal.invariant-loop-j

@@ -1,6 +1,5 @@
 -- `same_name` is the kit's comparison of the two names' characters. Rests on `Named`.
 use native.Mathlib.Omega.{arith}
-use borrow.Author.Rules.{rules}
 use Rattle.members.proofs.Same.{none-same, parts_same}
 use Rattle.members.proofs.names.same_name.Goals as goal
 

@@ -4,7 +4,6 @@ use Prim.Native.Nat.{ℕ, ◌^◌}
 use native.Mathlib.Omega.{arith}
 use Rattle.number.specs.Endian.{be}
 use Rattle.number.specs.inner.Post.{Bounded}
-use borrow.Author.Rules.{rules}
 use Rattle.reading.proofs.reading.number_at.Goals as goal
 
 pub be64-requires : goal.be64-requires

@@ -1,11 +1,7 @@
 -- `read_value` meets its contract: a refusal, a step that leads nowhere, no single number, or the value.
 use mathlib.Core.Path.{ap, ◌∙◌}
-use Prim.Native.Nat.{◌-◌}
 use native.Mathlib.Omega.{arith}
-use borrow.Author.Rules.{rules}
 use Rattle.descriptor.specs.declared.answer.Answer.{Answer}
-use mathlib.Core.List.{◌∷◌, []}
-use types.Run.{miss}
 use Rattle.reading.specs.Values.{no_value}
 use Rattle.access.proofs.Parts.{lost-shallow, found-lies}
 use Rattle.reading.proofs.Readings.{reading-refused, reading-lies, reading-lost, reading-none, reading-found}

@@ -2,13 +2,11 @@
 use mathlib.Core.Path.{ap, subst, ◌∙◌}
 use Prim.Native.Nat.{ℕ, ◌^◌, ◌<◌}
 use native.Mathlib.Omega.{arith}
-use borrow.Author.Rules.{rules}
 use Rattle.number.specs.Endian.{be}
 use Rattle.descriptor.specs.Width.{width_of}
 use Rattle.descriptor.proofs.Bodies.{header-room}
 use Rattle.reading.specs.Values.{value_of}
 use Rattle.reading.proofs.Readings.{value_read, value-none-wide, value_room}
-use borrow.Author.Rules.{rules}
 use Rattle.reading.proofs.reading.value_at.Goals as goal
 
 pub code_at-code-requires : goal.code_at-code-requires

@@ -1,8 +1,6 @@
 -- `double_value` meets its contract: a number or a NaN.
 use mathlib.Core.Path.{sym, ap, ◌∙◌}
-use borrow.Author.Rules.{rules}
 use Rattle.reading.specs.Values.{of_double}
-use borrow.Author.Rules.{rules}
 use Rattle.reading.proofs.value.double_value.Goals as goal
 
 pub returns-in-Number : goal.returns-in-Number

@@ -1,8 +1,6 @@
 -- `single_bits` meets its contract: only a NaN differs from itself.
 use lib.Ieee.{binary32}
-use borrow.Author.Rules.{rules}
 use Rattle.reading.proofs.Signs.{not-nan, nan-bits}
-use borrow.Author.Rules.{rules}
 use Rattle.reading.proofs.value.single_bits.Goals as goal
 
 pub float_to_bits-result : goal.float_to_bits-result

@@ -1,8 +1,6 @@
 -- `single_value` meets its contract: a number or a NaN.
 use mathlib.Core.Path.{sym, ap, ◌∙◌}
-use borrow.Author.Rules.{rules}
 use Rattle.reading.specs.Values.{of_single}
-use borrow.Author.Rules.{rules}
 use Rattle.reading.proofs.value.single_value.Goals as goal
 
 pub returns-in-Number : goal.returns-in-Number

@@ -1,8 +1,6 @@
 -- `value_kind` meets its contract, case by case.
 use mathlib.Core.Path.{sym, ap}
-use borrow.Author.Rules.{rules}
 use Rattle.reading.specs.Values.{value_kind}
-use borrow.Author.Rules.{rules}
 use Rattle.reading.proofs.value.value_kind.Goals as goal
 
 pub returns-in-Nothing : goal.returns-in-Nothing

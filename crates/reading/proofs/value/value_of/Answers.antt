@@ -4,11 +4,9 @@ use Prim.Native.Nat.{ℕ}
 use native.Mathlib.Omega.{arith}
 use mir.Syntax.{w64}
 use mir.ValLaws.{to_z-of_z}
-use borrow.Author.Rules.{rules}
 use Rattle.number.specs.Signed.{signed}
 use Rattle.reading.specs.declared.value.Value.TheVariants.{Signed}
 use Rattle.reading.proofs.Values.{signed-narrow, single-width, value-signed, value-unsigned, value-enumeration, value-single, value-double, value-flag, value_none, below-range, above-range}
-use borrow.Author.Rules.{rules}
 use Rattle.reading.proofs.value.value_of.Goals as goal
 
 pub overflow_cast-bits : goal.overflow_cast-bits

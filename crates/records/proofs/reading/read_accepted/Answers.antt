@@ -1,7 +1,6 @@
 -- `read_accepted` judges the data, the reader's names and the rig's top. Rests on `Answering`.
 use mathlib.Core.Path.{refl, sym, ap, ◌∙◌}
 use native.Mathlib.Omega.{arith}
-use borrow.Author.Rules.{rules}
 use borrow.Author.Tests.{not-true, not-false}
 use Rattle.descriptor.specs.Output.{Written}
 use Rattle.records.proofs.Topmost.{top-here}

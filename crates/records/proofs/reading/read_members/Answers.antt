@@ -1,7 +1,6 @@
 -- `read_members` picks the members, judges the room, and copies. Rests on `Answering`.
 use mathlib.Core.Path.{refl, sym, ap, subst, ◌∙◌}
 use native.Mathlib.Omega.{arith}
-use borrow.Author.Rules.{rules}
 use borrow.Author.Tests.{not-true, not-false}
 use Rattle.descriptor.specs.Output.{Written}
 use Rattle.descriptor.specs.declared.inside.Inside.{Inside}

@@ -1,7 +1,6 @@
 -- `read_record` judges the two descriptors. Rests on `Answering`.
 use mathlib.Core.Path.{ap, ◌∙◌}
 use native.Mathlib.Omega.{arith}
-use borrow.Author.Rules.{rules}
 use borrow.Author.Tests.{not-true, not-false}
 use Rattle.descriptor.specs.Output.{Written}
 use Rattle.descriptor.proofs.Checked.{judged-refused, judged-place}

@@ -1,13 +1,10 @@
 -- `is_cluster` asks for the kind of the code. Rests on `Topmost`.
 use mathlib.Core.Path.{sym, ap, ◌∙◌}
-use mathlib.Core.List.{[], ◌∷◌}
-use borrow.Author.Rules.{rules}
-use Rattle.descriptor.specs.Codes.{cluster, kind_of}
+use Rattle.descriptor.specs.Codes.{kind_of}
 use Rattle.descriptor.specs.inner.Steps.{kind_is}
 use Rattle.descriptor.specs.declared.codes.Kind.TheVariants as kinds
 use Rattle.descriptor.proofs.Bodies.{header-room}
 use Rattle.descriptor.proofs.CodeKinds.{kind_named, known}
-use Rattle.flattened.proofs.Named.{not-kind}
 use Rattle.records.proofs.Topmost.{cluster-so, cluster-not}
 use Rattle.records.proofs.top.is_cluster.Goals as goal
 

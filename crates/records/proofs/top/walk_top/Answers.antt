@@ -1,7 +1,6 @@
 -- `walk_top` judges the length, walks, and looks for bytes left over. Rests on `Topmost`.
 use mathlib.Core.Path.{◌∙◌}
 use native.Mathlib.Omega.{arith}
-use borrow.Author.Rules.{rules}
 use borrow.Author.Tests.{not-true, not-false}
 use Rattle.records.proofs.Topmost.{data-long, data-lost, data-place, data-end, data-over, data-whole, data-zero, data-starts, refused-top}
 use Rattle.records.proofs.top.walk_top.Goals as goal

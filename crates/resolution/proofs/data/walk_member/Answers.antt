@@ -2,7 +2,6 @@
 use mathlib.Core.Path.{ap, ◌∙◌}
 use Prim.Native.Nat.{ℕ}
 use native.Mathlib.Omega.{arith}
-use borrow.Author.Rules.{rules}
 use Rattle.descriptor.specs.Width.{width_of}
 use Rattle.descriptor.proofs.Bodies.{header-room}
 use Rattle.flattened.specs.Order.{big}

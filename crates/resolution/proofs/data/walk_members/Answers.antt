@@ -1,11 +1,10 @@
 -- The answers to the goals of `walk_members`.
 use mathlib.Core.Path.{sym, ap, ◌∙◌}
-use Prim.Native.Nat.{ℕ, ◌+◌, ◌-◌}
+use Prim.Native.Nat.{ℕ, ◌+◌}
 use native.Mathlib.Omega.{arith}
 use lib.ListN.{length-set}
-use borrow.Author.Rules.{rules}
 use Rattle.descriptor.proofs.Bodies.{header-room}
-use Rattle.resolution.proofs.Walking.{WalkLoop, walk-begin, walk-type, walk-size, walk-lost, walk-again, walk-done, walk-starts, refused-starts}
+use Rattle.resolution.proofs.Walking.{walk-begin, walk-type, walk-size, walk-lost, walk-again, walk-done, walk-starts, refused-starts}
 use Rattle.resolution.proofs.data.walk_members.Goals as goal
 
 pub loop-i-init : goal.loop-i-init
@@ -31,8 +30,11 @@ walk_member-r-requires c =
 pub returns-in-Refused : goal.returns-in-Refused
 returns-in-Refused c =
     let b = c in
-    let l = c.loop-i in record { step = c.refuse.ensures ∙ walk-lost b.args.d.now b.args.k b.args.start b.args.s.now b.requires.members l.starts l.p l.next.at l.i l.invariant c.loop-i-test.true _ _
-          (sym c.in-Refused.is ∙ c.walk_member-r.ensures); starts = refused-starts _ _ _ _ _ _ c.refuse.ensures (length-set l.starts l.i l.next.at ∙ l.invariant.long) }
+    let l = c.loop-i in record {
+      step = c.refuse.ensures ∙ walk-lost b.args.d.now b.args.k b.args.start b.args.s.now b.requires.members l.starts l.p l.next.at l.i l.invariant c.loop-i-test.true _ _
+          (sym c.in-Refused.is ∙ c.walk_member-r.ensures);
+      starts = refused-starts _ _ _ _ _ _ c.refuse.ensures (length-set l.starts l.i l.next.at ∙ l.invariant.long);
+    }
 
 pub size_at-p-requires : goal.size_at-p-requires
 size_at-p-requires c =

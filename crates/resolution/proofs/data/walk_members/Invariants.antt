@@ -1,11 +1,6 @@
 -- `walk_members` walks one type after another. Rests on `Walking`.
-use mathlib.Core.Path.{sym, ap, ◌∙◌}
-use Prim.Native.Nat.{ℕ, ◌+◌, ◌-◌}
-use native.Mathlib.Omega.{arith}
-use lib.ListN.{length-set}
-use borrow.Author.Rules.{rules}
-use Rattle.descriptor.proofs.Bodies.{header-room}
-use Rattle.resolution.proofs.Walking.{WalkLoop, walk-begin, walk-type, walk-size, walk-lost, walk-again, walk-done, walk-starts, refused-starts}
+use Prim.Native.Nat.{◌-◌}
+use Rattle.resolution.proofs.Walking.{WalkLoop}
 use Rattle.resolution.proofs.data.walk_members.Given as goal
 
 abbrev pub invariant-loop-i : goal.invariant-loop-i

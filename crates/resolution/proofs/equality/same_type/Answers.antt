@@ -1,7 +1,6 @@
 -- `same_type` compares the two descriptors as ones of their own. Rests on `Apart`.
 use mathlib.Core.Path.{◌∙◌}
 use native.Mathlib.Omega.{arith}
-use borrow.Author.Rules.{rules}
 use Rattle.descriptor.proofs.Bodies.{header-room}
 use Rattle.resolution.proofs.Apart.{apart-within, apart-accepted, accepted-compared}
 use Rattle.resolution.proofs.equality.same_type.Goals as goal

@@ -1,5 +1,4 @@
 -- `last_named` goes by the head of the name's mark. Rests on `Seeking`.
-use borrow.Author.Rules.{rules}
 use Rattle.members.specs.inner.Names.{chars_at}
 use Rattle.resolution.proofs.Seeking.{seek-head, seek-last}
 use Rattle.resolution.proofs.namesakes.last_named.Goals as goal

@@ -1,6 +1,5 @@
 -- `search` looks for another member of the name before the last. Rests on `Seeking`.
 use native.Mathlib.Omega.{arith}
-use borrow.Author.Rules.{rules}
 use Rattle.members.specs.inner.Names.{chars_at}
 use Rattle.resolution.proofs.Seeking.{listed-lie, seek-missing, seek-within, seek-link, seek-doubled, seek-inner, seek_found}
 use Rattle.resolution.proofs.namesakes.search.Goals as goal

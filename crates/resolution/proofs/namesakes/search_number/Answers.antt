@@ -1,6 +1,5 @@
 -- `search_number` meets its contract, case by case.
 use mathlib.Core.Path.{sym, ap}
-use borrow.Author.Rules.{rules}
 use Rattle.resolution.specs.Record.{search_number}
 use Rattle.resolution.proofs.namesakes.search_number.Goals as goal
 

@@ -1,9 +1,5 @@
 -- `pick` searches by name and compares the types. Rests on `Chosen`.
-use mathlib.Core.List.{[], ◌∷◌}
 use native.Mathlib.Omega.{arith}
-use types.Run.{miss}
-use borrow.Author.Rules.{rules}
-use borrow.Author.Tests.{not-true, not-false}
 use Rattle.flattened.specs.inner.Types.{type_at}
 use Rattle.members.specs.inner.Names.{chars_at}
 use Rattle.resolution.proofs.Seeking.{listed-lie}

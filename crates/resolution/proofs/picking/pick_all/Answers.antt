@@ -1,11 +1,9 @@
 -- The answers to the goals of `pick_all`.
-use Prim.Native.Nat.{◌-◌}
 use native.Mathlib.Omega.{arith}
-use borrow.Author.Rules.{rules}
 use borrow.Author.Tests.{not-true, not-false}
 use Rattle.members.proofs.Chaining.{fresh-chains}
 use Rattle.resolution.proofs.Seeking.{listed-lie}
-use Rattle.resolution.proofs.Planned.{PlanLoop, plan-begin, plan-called, plan-lost, plan-inside, plan-order, plan-short, plan-again, plan-done}
+use Rattle.resolution.proofs.Planned.{plan-begin, plan-called, plan-lost, plan-inside, plan-order, plan-short, plan-again, plan-done}
 use Rattle.resolution.proofs.picking.pick_all.Goals as goal
 
 pub chain-requires : goal.chain-requires

@@ -1,7 +1,6 @@
 -- `store_add` opens the book, reads the identifier, judges and writes. Rests on `Adding`.
-use mathlib.Core.Path.{refl, sym, ap, ◌∙◌}
+use mathlib.Core.Path.{ap, ◌∙◌}
 use native.Mathlib.Omega.{arith}
-use borrow.Author.Rules.{rules}
 use borrow.Author.Tests.{not-true, not-false}
 use Rattle.descriptor.specs.Output.{Written}
 use Rattle.canonical.proofs.Lists.{bytes_of}

@@ -1,6 +1,5 @@
 -- `write_body` copies the descriptor and its data. Rests on `Adding`.
 use mathlib.Core.Path.{refl}
-use borrow.Author.Rules.{rules}
 use Rattle.store.proofs.Adding.{body-copied}
 use Rattle.store.proofs.add.write_body.Goals as goal
 

@@ -1,5 +1,4 @@
 -- `write_entry` writes one number after another. Rests on `Adding`.
-use borrow.Author.Rules.{rules}
 use Rattle.number.specs.Endian.{be_bytes}
 use Rattle.number.proofs.Writing.{length-be_bytes}
 use Rattle.store.proofs.Adding.{entry-written}

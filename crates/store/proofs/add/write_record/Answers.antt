@@ -1,5 +1,4 @@
 -- `write_record` writes the body, the entry and the count. Rests on `Adding`.
-use borrow.Author.Rules.{rules}
 use Rattle.store.proofs.Adding.{record-written}
 use Rattle.store.proofs.add.write_record.Goals as goal
 

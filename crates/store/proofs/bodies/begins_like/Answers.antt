@@ -1,7 +1,5 @@
 -- `begins_like` asks whether a body lies where it should, and compares its descriptor. Rests on `Judging`.
 use native.Mathlib.Omega.{arith}
-use borrow.Author.Rules.{rules}
-use borrow.Author.Tests.{not-false}
 use Rattle.store.proofs.Judging.{lies_so, body-inside, begins-not, begins-so}
 use Rattle.store.proofs.bodies.begins_like.Goals as goal
 

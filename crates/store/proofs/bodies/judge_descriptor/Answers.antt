@@ -1,5 +1,4 @@
 -- `judge_descriptor` takes over what is known of the same bytes, or judges them. Rests on `Judging`.
-use borrow.Author.Rules.{rules}
 use Rattle.store.proofs.Judging.{judges-again}
 use Rattle.store.proofs.bodies.judge_descriptor.Goals as goal
 

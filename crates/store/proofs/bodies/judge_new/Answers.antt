@@ -1,7 +1,5 @@
 -- `judge_new` judges the bytes of a descriptor. Rests on `Judging`.
 use Prim.Native.Nat.{◌+◌}
-use native.Mathlib.Omega.{arith}
-use borrow.Author.Rules.{rules}
 use borrow.Author.Tests.{not-true, not-false}
 use Rattle.descriptor.proofs.Checked.{judged-refused}
 use Rattle.canonical.proofs.Lists.{part_slice}

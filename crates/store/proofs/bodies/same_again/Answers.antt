@@ -1,6 +1,5 @@
 -- `same_again` compares the bytes of two descriptors. Rests on `Judging`.
 use native.Mathlib.Omega.{arith}
-use borrow.Author.Rules.{rules}
 use Rattle.store.proofs.Judging.{again-not, again-so}
 use Rattle.store.proofs.bodies.same_again.Goals as goal
 

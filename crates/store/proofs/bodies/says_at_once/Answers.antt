@@ -1,6 +1,5 @@
 -- `says_at_once` compares the data's length, and reads the identifier where it always stands. Rests on `Judging`.
 use native.Mathlib.Omega.{arith}
-use borrow.Author.Rules.{rules}
 use Rattle.store.proofs.Judging.{says-short, says-room, says-fixed}
 use Rattle.store.proofs.bodies.says_at_once.Goals as goal
 

@@ -1,7 +1,6 @@
 -- `says_walked` judges data and reads the identifier in it. Rests on `Judging`.
 use Prim.Native.Nat.{◌+◌}
 use native.Mathlib.Omega.{arith}
-use borrow.Author.Rules.{rules}
 use borrow.Author.Tests.{not-true, not-false}
 use Rattle.canonical.proofs.Lists.{part_slice}
 use Rattle.store.specs.inner.Bodies.{after_of}

@@ -1,6 +1,5 @@
 -- `fixed_width` takes the extent of the top. Rests on `Steady`.
 use mathlib.Core.Path.{sym, ◌∙◌}
-use borrow.Author.Rules.{rules}
 use Rattle.records.proofs.Topmost.{stands}
 use Rattle.store.proofs.Steady.{width-varies, width-judged, width-fixed, width-around}
 use Rattle.store.proofs.fixed.fixed_width.Goals as goal

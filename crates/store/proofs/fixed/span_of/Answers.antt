@@ -1,12 +1,11 @@
 -- The answers to the goals of `span_of`.
 use mathlib.Core.Path.{refl, sym, ap, ◌∙◌}
-use Prim.Native.Nat.{ℕ, ◌+◌, ◌-◌}
+use Prim.Native.Nat.{ℕ, ◌+◌}
 use native.Mathlib.Omega.{arith}
-use borrow.Author.Rules.{rules}
 use Rattle.descriptor.specs.declared.inside.Inside.{Inside}
 use Rattle.descriptor.proofs.Bodies.{header-room}
 use Rattle.records.proofs.Topmost.{top-here}
-use Rattle.store.proofs.Steady.{SpanLoop, span-begin, span-type, span-size, span-short, span-bytes, span-again, span-done, span_none}
+use Rattle.store.proofs.Steady.{span-begin, span-type, span-size, span-short, span-bytes, span-again, span-done, span_none}
 use Rattle.store.proofs.fixed.span_of.Goals as goal
 
 pub fixed_width-width-requires : goal.fixed_width-width-requires

@@ -1,8 +1,6 @@
 -- `carrier` searches for the member that the shape asks for. Rests on `Identified`.
-use mathlib.Core.Path.{◌≡◌, refl, sym, ap, subst, ◌∙◌}
-use mathlib.Core.Bool.{true}
+use mathlib.Core.Path.{refl, sym, ap, subst, ◌∙◌}
 use native.Mathlib.Omega.{arith}
-use borrow.Author.Rules.{rules}
 use borrow.Author.Tests.{not-true, not-false}
 use Rattle.descriptor.specs.Outcome.{denied}
 use Rattle.descriptor.specs.declared.answer.Answer.{Answer}

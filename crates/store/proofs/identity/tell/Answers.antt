@@ -1,6 +1,5 @@
 -- `tell` hands a number on.
 use mathlib.Core.Bool.{true}
-use borrow.Author.Rules.{rules}
 use Rattle.store.proofs.identity.tell.Goals as goal
 
 pub returns : goal.returns

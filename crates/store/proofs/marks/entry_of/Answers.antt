@@ -1,7 +1,5 @@
 -- `entry_of` looks at the mark, and searches where there is one. Rests on `Marking`.
 use mathlib.Core.Path.{refl}
-use native.Mathlib.Omega.{arith}
-use borrow.Author.Rules.{rules}
 use Rattle.store.proofs.Marking.{sought-unmarked}
 use Rattle.store.proofs.marks.entry_of.Goals as goal
 

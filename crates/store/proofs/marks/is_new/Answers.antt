@@ -1,7 +1,5 @@
 -- `is_new` looks at the mark, and searches where there is one. Rests on `Marking`.
 use mathlib.Core.Path.{refl}
-use native.Mathlib.Omega.{arith}
-use borrow.Author.Rules.{rules}
 use Rattle.store.proofs.Marking.{new-unmarked, new-sought}
 use Rattle.store.proofs.marks.is_new.Goals as goal
 

@@ -1,15 +1,11 @@
 -- The answers to the goals of `check_used`.
 use mathlib.Core.Path.{refl, sym, ap, ◌∙◌}
-use mathlib.Core.Logic.{⊎_elim}
-use Prim.Native.Nat.{◌+◌, ◌-◌}
 use native.Mathlib.Omega.{arith}
-use borrow.Author.Rules.{rules}
-use borrow.Author.Tests.{not-true, not-false}
 use Rattle.descriptor.specs.declared.step.Step.{Step}
 use Rattle.store.specs.inner.Entries.{spans_at, middle_of}
 use Rattle.store.proofs.Judging.{lies_so, body-away, body-inside, body-bad, body-said, Last, last-again, last-judged}
 use Rattle.store.proofs.Marking.{marks-long}
-use Rattle.store.proofs.Opening.{UsedLoop, used-begin, left-lost, left-doubled, left-again, left-done, marks-lost, marks-left}
+use Rattle.store.proofs.Opening.{used-begin, left-lost, left-doubled, left-again, left-done, marks-lost, marks-left}
 use Rattle.store.proofs.open.check_used.Goals as goal
 use Rattle.store.proofs.open.check_used.Goals.{then-not-same_again+else-d-eq0, else-not-same_again}
 

@@ -1,10 +1,9 @@
 -- `open_marked` judges the sizes, the entries in use and the unused ones. Rests on `Opening`.
-use mathlib.Core.Path.{sym, ap, ◌∙◌}
-use Prim.Native.Nat.{ℕ, ◌-◌}
+use mathlib.Core.Path.{ap, ◌∙◌}
+use Prim.Native.Nat.{ℕ}
 use native.Mathlib.Omega.{arith}
 use mathlib.Core.List.{[]}
 use lib.ListN.{length}
-use borrow.Author.Rules.{rules}
 use borrow.Author.Tests.{not-true, not-false}
 use Rattle.descriptor.specs.inner.Steps.{counted}
 use Rattle.descriptor.specs.declared.step.Step.{Step}

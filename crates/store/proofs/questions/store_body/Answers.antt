@@ -2,7 +2,6 @@
 use mathlib.Core.Path.{◌≡◌, ap, ◌∙◌}
 use Prim.Native.Nat.{◌+◌}
 use native.Mathlib.Omega.{arith}
-use borrow.Author.Rules.{rules}
 use lib.Seq.{slice}
 use Rattle.access.specs.declared.part.Part.{Part}
 use Rattle.access.proofs.Parts.{cut-same}
@@ -20,5 +19,8 @@ returns c =
     let a = c.args in
     let s = a.s.now in
     let body = c.store_find-body in
-    let there : body.result.start + a.s.ref_ptr.1 ≡ a.s.ref_ptr.1 + (found s a.identifier).start = omega (arith, ap (λ (y : Part). y.start) body.ensures.value) in record { result_value = cut-same body.result.start body.result.length s body.ensures.within
-          ∙ ap (λ (x : Part). slice x.start (x.start + x.length) s) body.ensures.value; place = λ j. (a.s.ref_ptr.0, there j) }
+    let there : body.result.start + a.s.ref_ptr.1 ≡ a.s.ref_ptr.1 + (found s a.identifier).start = omega (arith, ap (λ (y : Part). y.start) body.ensures.value) in record {
+      result_value = cut-same body.result.start body.result.length s body.ensures.within
+          ∙ ap (λ (x : Part). slice x.start (x.start + x.length) s) body.ensures.value;
+      place = λ j. (a.s.ref_ptr.0, there j);
+    }

@@ -1,7 +1,6 @@
 -- `store_check` opens the book. Rests on `Asked`.
 use mathlib.Core.Path.{◌∙◌}
 use native.Mathlib.Omega.{arith}
-use borrow.Author.Rules.{rules}
 use borrow.Author.Tests.{not-true, not-false}
 use Rattle.canonical.proofs.Lists.{bytes_of}
 use Rattle.store.proofs.Asked.{asked-place, check-lost, check-got}

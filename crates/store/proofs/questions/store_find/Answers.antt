@@ -1,16 +1,14 @@
 -- `store_find` opens the book and searches its entries. Rests on `Asked`.
-use mathlib.Core.Path.{sym, ap, ◌∙◌}
-use Prim.Native.Nat.{ℕ, ◌+◌}
+use mathlib.Core.Path.{ap, ◌∙◌}
+use Prim.Native.Nat.{◌+◌}
 use native.Mathlib.Omega.{arith}
-use borrow.Author.Rules.{rules}
 use borrow.Author.Tests.{not-true, not-false}
 use Rattle.descriptor.specs.declared.answer.Answer.{Answer}
 use Rattle.canonical.proofs.Lists.{bytes_of}
 use Rattle.access.specs.Path.{no_part}
 use Rattle.access.specs.declared.part.Part.{Part}
 use Rattle.store.specs.Questions.{found}
-use Rattle.store.specs.inner.Entries.{spans_at, Sought}
-use Rattle.store.specs.declared.spans.Entry.{Entry}
+use Rattle.store.specs.inner.Entries.{spans_at}
 use Rattle.store.proofs.Asked.{asked-place, asked-lies, find-lost, find_none, find-entry, find-room, find-got}
 use Rattle.store.proofs.questions.store_find.Goals as goal
 
@@ -32,8 +30,11 @@ seek-i-requires c =
 pub returns-then-i-n : goal.returns-then-i-n
 returns-then-i-n c =
     let s = c.args.s.now in
-    let r = c.no_part-then-i-n.ensures ∙ ap (λ (a : Answer). no_part a.number a.input a.place) c.answered-then-i-n.ensures in record { value = r ∙ find_none s _ c.open_book-book.ensures (not-false _ c.if-not-book.false) _ _ c.seek-i.ensures c.if-i-n.true
-          ∙ ap (found s) c.position.ensures.eq; within = omega (arith, ap (λ (x : Part). x.start + x.length) r) }
+    let r = c.no_part-then-i-n.ensures ∙ ap (λ (a : Answer). no_part a.number a.input a.place) c.answered-then-i-n.ensures in record {
+      value = r ∙ find_none s _ c.open_book-book.ensures (not-false _ c.if-not-book.false) _ _ c.seek-i.ensures c.if-i-n.true
+          ∙ ap (found s) c.position.ensures.eq;
+      within = omega (arith, ap (λ (x : Part). x.start + x.length) r);
+    }
 
 pub entry_place-requires : goal.entry_place-requires
 entry_place-requires c =
@@ -56,6 +57,9 @@ returns c =
     let book = c.open_book-book.ensures in
     let on = not-false _ c.if-not-book.false in
     let sought = c.seek-i.ensures in
-    let some = c.if-i-n.false in record { value = (λ i. record { answer = c.answered-answer.ensures i; start = e.result.start; length = e.result.first + e.result.second })
+    let some = c.if-i-n.false in record {
+      value = (λ i. record { answer = c.answered-answer.ensures i; start = e.result.start; length = e.result.first + e.result.second })
           ∙ find-got s _ book on _ _ sought some _ ee
-          ∙ ap (found s) c.position.ensures.eq; within = find-room s _ book on _ _ sought some _ ee }
+          ∙ ap (found s) c.position.ensures.eq;
+      within = find-room s _ book on _ _ sought some _ ee;
+    }

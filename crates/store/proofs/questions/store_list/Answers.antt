@@ -1,13 +1,12 @@
 -- The answers to the goals of `store_list`.
-use mathlib.Core.Path.{sym, ap, ◌∙◌}
-use Prim.Native.Nat.{ℕ, ◌-◌}
+use mathlib.Core.Path.{ap, ◌∙◌}
+use Prim.Native.Nat.{ℕ}
 use native.Mathlib.Omega.{arith}
-use borrow.Author.Rules.{rules}
 use borrow.Author.Tests.{not-true, not-false}
 use Rattle.number.specs.Endian.{be}
 use Rattle.descriptor.specs.Output.{Written}
 use Rattle.canonical.proofs.Lists.{bytes_of}
-use Rattle.store.proofs.Asked.{asked-place, asked-lies, list-lost, list-small, ListLoop, list-begin, list-long, list-again, list_done}
+use Rattle.store.proofs.Asked.{asked-place, asked-lies, list-lost, list-small, list-begin, list-long, list-again, list_done}
 use Rattle.store.proofs.questions.store_list.Goals as goal
 
 pub open_book-book-requires : goal.open_book-book-requires

@@ -1,12 +1,9 @@
 -- The answers to the goals of `run_on`.
 use mathlib.Core.Path.{ap, ◌∙◌}
-use Prim.Native.Nat.{◌-◌}
 use native.Mathlib.Omega.{arith}
-use borrow.Author.Rules.{rules}
-use borrow.Author.Tests.{not-false}
 use Rattle.store.specs.inner.Entries.{spans_at}
 use Rattle.store.proofs.Judging.{body-inside, begins-right}
-use Rattle.store.proofs.Opening.{RunLoop, run-begin, run-again, run-done}
+use Rattle.store.proofs.Opening.{run-begin, run-again, run-done}
 use Rattle.store.proofs.runs.run_on.Goals as goal
 
 pub returns-then-d-eq0 : goal.returns-then-d-eq0

@@ -1,12 +1,6 @@
 -- `run_on` goes over entries of one descriptor whose data has one width. Rests on `Judging` and `Opening`.
-use mathlib.Core.Path.{ap, ◌∙◌}
 use Prim.Native.Nat.{◌-◌}
-use native.Mathlib.Omega.{arith}
-use borrow.Author.Rules.{rules}
-use borrow.Author.Tests.{not-false}
-use Rattle.store.specs.inner.Entries.{spans_at}
-use Rattle.store.proofs.Judging.{body-inside, begins-right}
-use Rattle.store.proofs.Opening.{RunLoop, run-begin, run-again, run-done}
+use Rattle.store.proofs.Opening.{RunLoop}
 use Rattle.store.proofs.runs.run_on.Given as goal
 
 abbrev pub invariant-loop-i : goal.invariant-loop-i

@@ -1,6 +1,4 @@
 -- `entry_at` reads the four numbers of an entry.
-use native.Mathlib.Omega.{arith}
-use borrow.Author.Rules.{rules}
 use Rattle.store.proofs.spans.entry_at.Goals as goal
 
 pub returns : goal.returns

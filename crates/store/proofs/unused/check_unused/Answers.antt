@@ -1,13 +1,11 @@
 -- The answers to the goals of `check_unused`.
-use mathlib.Core.Path.{◌≡◌, sym, ap, ◌∙◌}
-use Prim.Native.Nat.{ℕ, ◌+◌, ◌-◌}
+use mathlib.Core.Path.{sym, ap, ◌∙◌}
+use Prim.Native.Nat.{ℕ, ◌+◌}
 use native.Mathlib.Omega.{arith}
 use lib.ListN.{replicate}
 use lib.Seq.{slice}
-use borrow.Author.Rules.{rules}
-use borrow.Author.Tests.{not-true, not-false}
 use Rattle.canonical.specs.Equality.{same_chars}
-use Rattle.store.proofs.Opening.{zero-so, zero-not, unused-all, UnusedLoop, unused-begin, unused-again, unused-lost, unused-done}
+use Rattle.store.proofs.Opening.{zero-so, zero-not, unused-all, unused-begin, unused-again, unused-lost, unused-done}
 use Rattle.store.proofs.unused.check_unused.Goals as goal
 
 pub entry_place-requires : goal.entry_place-requires

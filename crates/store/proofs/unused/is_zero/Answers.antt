@@ -1,6 +1,5 @@
 -- `is_zero` asks for the largest of the bytes. Rests on `Zeros`.
 use native.Mathlib.Omega.{arith}
-use borrow.Author.Rules.{rules}
 use Rattle.canonical.proofs.Lists.{bytes_of}
 use Rattle.flattened.specs.inner.Order.{order_of}
 use Rattle.store.proofs.Zeros.{zeros-so}

@@ -1,14 +1,12 @@
 -- `check_descriptor` is the validation, and then the table. Assumes nothing.
 use mathlib.Core.Path.{refl}
 use native.Mathlib.Omega.{arith}
-use borrow.Author.Rules.{rules}
 use borrow.Author.Tests.{not-true, not-false}
 use Rattle.descriptor.specs.Tree.{row_count}
 use Rattle.descriptor.specs.Check.{checked}
 use Rattle.descriptor.specs.inner.Filling.{zero_rows}
 use Rattle.descriptor.proofs.Steps.{got}
 use Rattle.descriptor.proofs.Checked.{judged-refused, judged-place, few-rows, table-begun, check-accepted, check-refused}
-use borrow.Author.Rules.{rules}
 use Rattle.tabulation.proofs.check.check_descriptor.Goals as goal
 
 pub answered-answer-requires : goal.answered-answer-requires

@@ -1,10 +1,7 @@
 -- `row_at` makes the row; every number fits its field. Assumes nothing.
-use mathlib.Core.Path.{◌≡◌, refl, sym, ap, ◌∙◌}
 use native.Mathlib.Omega.{arith}
-use borrow.Author.Rules.{rules}
 use borrow.Author.Tests.{eq-eqb, ne_eqb}
 use Rattle.descriptor.specs.inner.Filling.{row_read}
-use borrow.Author.Rules.{rules}
 use Rattle.tabulation.proofs.table.row_at.Goals as goal
 
 pub returns-then-at-p : goal.returns-then-at-p

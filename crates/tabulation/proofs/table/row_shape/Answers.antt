@@ -1,7 +1,5 @@
 -- `row_shape` asks for an enumeration's items only where there are some. Assumes nothing.
 use mathlib.Core.Path.{ap, sym, ◌∙◌}
-use Prim.Native.Nat.{ℕ}
-use borrow.Author.Rules.{rules}
 use Rattle.descriptor.specs.Codes.{kind_of}
 use Rattle.descriptor.proofs.Bodies.{shape_same}
 use Rattle.tabulation.proofs.table.row_shape.Goals as goal

@@ -1,9 +1,7 @@
 -- `shape` is what stands inside, past an enumeration's items. Rests on `Items`.
-use mathlib.Core.Path.{◌≡◌, refl, ap, sym, ◌∙◌}
+use mathlib.Core.Path.{ap, sym, ◌∙◌}
 use Prim.Native.Nat.{ℕ}
 use native.Mathlib.Omega.{arith}
-use borrow.Author.Rules.{rules}
-use borrow.Author.Tests.{not-true, not-false}
 use Rattle.descriptor.specs.Codes.{kind_of}
 use Rattle.descriptor.specs.inner.Steps.{is_enumeration}
 use Rattle.descriptor.proofs.CodeKinds.{enumeration-is}

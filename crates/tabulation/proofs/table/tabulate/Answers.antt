@@ -1,9 +1,8 @@
 -- The answers to the goals of `tabulate`.
 use mathlib.Core.Path.{refl, ap}
 use native.Mathlib.Omega.{arith}
-use borrow.Author.Rules.{rules}
-use Prim.Native.Nat.{suc, ◌+◌, ◌-◌}
-use Rattle.descriptor.specs.Limits.{depth_limit, row_limit}
+use Prim.Native.Nat.{suc, ◌-◌}
+use Rattle.descriptor.specs.Limits.{depth_limit}
 use Rattle.descriptor.specs.inner.Standing.{is_read}
 use Rattle.descriptor.specs.inner.Filling.{Table, empty_table, filled}
 use Rattle.descriptor.proofs.Filling.{first, low, room}

@@ -1,7 +1,6 @@
 -- `zero_rows` is a zero row repeated. Assumes nothing.
 use mathlib.Core.Path.{ap}
 use lib.ListN.{replicate}
-use borrow.Author.Rules.{rules}
 use Rattle.descriptor.specs.inner.Filling.{zero_rows}
 use Rattle.descriptor.specs.declared.answer.Row.{Row}
 use Rattle.tabulation.proofs.table.zero_rows.Goals as goal

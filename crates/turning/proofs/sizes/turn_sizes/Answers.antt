@@ -3,7 +3,6 @@ use mathlib.Core.Path.{sym, ◌∙◌}
 use native.Mathlib.Omega.{arith}
 use Rattle.flattened.specs.inner.Order.{order_of}
 use Rattle.turning.proofs.Parts.{sizes-read, sizes-done, sizes-refused}
-use borrow.Author.Rules.{rules}
 use Rattle.turning.proofs.sizes.turn_sizes.Goals as goal
 
 pub turn_run_4-requires : goal.turn_run_4-requires

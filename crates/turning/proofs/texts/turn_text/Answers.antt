@@ -6,7 +6,6 @@ use native.Mathlib.Omega.{arith}
 use Rattle.flattened.specs.inner.Order.{order_of}
 use Rattle.byte_order.specs.inner.Turning.{turned_run}
 use Rattle.turning.proofs.Pieces.{text-read, text-turned}
-use borrow.Author.Rules.{rules}
 use Rattle.turning.proofs.texts.turn_text.Goals as goal
 
 pub overflow_add-characters : goal.overflow_add-characters

@@ -1,9 +1,7 @@
 -- The answers to the goals of `turn_texts`.
-use Prim.Native.Nat.{◌-◌}
 use Rattle.flattened.specs.Walk.{text_at}
 use Rattle.flattened.specs.inner.Order.{order_of}
-use Rattle.turning.proofs.Remaining.{RepeatTurns, repeat-begin, repeat-here, repeat-next, repeat-end}
-use borrow.Author.Rules.{rules}
+use Rattle.turning.proofs.Remaining.{repeat-begin, repeat-here, repeat-next, repeat-end}
 use Rattle.turning.proofs.texts.turn_texts.Goals as goal
 
 pub loop-i-init : goal.loop-i-init

@@ -2,8 +2,7 @@
 use Prim.Native.Nat.{◌-◌}
 use Rattle.flattened.specs.Walk.{text_at}
 use Rattle.flattened.specs.inner.Order.{order_of}
-use Rattle.turning.proofs.Remaining.{RepeatTurns, repeat-begin, repeat-here, repeat-next, repeat-end}
-use borrow.Author.Rules.{rules}
+use Rattle.turning.proofs.Remaining.{RepeatTurns}
 use Rattle.turning.proofs.texts.turn_texts.Given as goal
 
 abbrev pub invariant-loop-i : goal.invariant-loop-i

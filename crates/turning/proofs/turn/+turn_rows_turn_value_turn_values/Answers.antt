@@ -1,8 +1,6 @@
 -- The answers to the goals of `+turn_rows_turn_value_turn_values`.
 use mathlib.Core.Path.{◌≡◌, sym, ap, ◌∙◌}
-use mathlib.Core.List.{[], ◌∷◌}
-use mathlib.Core.Logic.{⊎_elim}
-use Prim.Native.Nat.{ℕ, ◌+◌, ◌-◌, ◌*◌, ◌<◌}
+use Prim.Native.Nat.{◌+◌, ◌-◌, ◌*◌}
 use native.Mathlib.Omega.{arith}
 use Rattle.descriptor.specs.Codes.{string, array, kind_of}
 use Rattle.descriptor.specs.Width.{width_of}
@@ -14,15 +12,13 @@ use Rattle.flattened.specs.Walk.{walk, walk_all}
 use Rattle.flattened.specs.inner.Order.{order_of}
 use Rattle.flattened.specs.inner.Types.{type_at, types_at}
 use Rattle.flattened.proofs.Cases.{compound-inside, row_inside, compound}
-use Rattle.flattened.proofs.Named.{not-kind}
 use Rattle.flattened.proofs.Repeats.{repeat-one}
 use Rattle.flattened.proofs.Types.{type-deep, type-solid, alone}
 use Rattle.flattened.proofs.KindWalks.{value-text, value-compound, value-array, walk-texts, walk-compounds, walk-alone}
 use Rattle.turning.specs.inner.Tokens.{Turned}
-use Rattle.turning.proofs.Remaining.{RepeatTurns, repeat-begin, repeat-here, repeat-next, repeat-end, remains-last}
-use Rattle.turning.proofs.Parts.{turnable-as, turned_as, turned-at, scalars-done, scalars-room, scalar-room, scalar-done, array-sizes, array-left, RowTurns, row-begin, row_here, row-ready, row_next, row-end}
+use Rattle.turning.proofs.Remaining.{repeat-begin, repeat-here, repeat-next, repeat-end, remains-last}
+use Rattle.turning.proofs.Parts.{turnable-as, turned_as, turned-at, scalars-done, scalars-room, scalar-room, scalar-done, array-sizes, array-left, row-begin, row_here, row-ready, row_next, row-end}
 use Rattle.turning.proofs.EvenWalks.{even-laid, even-done}
-use borrow.Author.Rules.{rules}
 use Rattle.descriptor.specs.Header.{code_in}
 use Rattle.turning.proofs.turn.+turn_rows_turn_value_turn_values.Goals as goal
 use Rattle.turning.proofs.turn.+turn_rows_turn_value_turn_values.Goals.{turn_rows-then-w-ne0, turn_rows-else-w-ne0}
@@ -98,8 +94,11 @@ turn_rows-loop-j-preserved t c =
     let l = c.loop-j in
     let turn = row_here a.d.now (order_of a.o) a.s.now m.out a.k a.start m.at a.left l.out l.p l.at l.j l.invariant c.loop-j-test.true in
     let done : Turned (walk (order_of a.o) (type_at a.d.now l.p) a.s.now l.at) a.s.now l.out c.if-w-ne0.out c.if-w-ne0.at =
-    (elim c.if-w-ne0.branch [ turn_rows-then-w-ne0 w ↦ turned-at _ a.s.now l.out _ _ _ _ w.out-is w.at-is
-    (scalar-done a.d.now l.p turn.first.here _ _ c.code_at-code.ensures c.width-w.ensures (omega (arith, w.if-w-ne0.true)) (order_of a.o) a.s.now l.at l.out _ (row-ready a.d.now (order_of a.o) a.s.now m.out a.k a.start m.at a.left l.out l.p l.at l.j l.invariant c.loop-j-test.true) w.turn_scalar.ensures) | turn_rows-else-w-ne0 w ↦ turned-at _ a.s.now l.out _ _ _ _ w.out-is w.at-is w.turn_value-at.ensures ]) in
+    (elim c.if-w-ne0.branch [
+      | turn_rows-then-w-ne0 w ↦ turned-at _ a.s.now l.out _ _ _ _ w.out-is w.at-is
+          (scalar-done a.d.now l.p turn.first.here _ _ c.code_at-code.ensures c.width-w.ensures (omega (arith, w.if-w-ne0.true)) (order_of a.o) a.s.now l.at l.out _ (row-ready a.d.now (order_of a.o) a.s.now m.out a.k a.start m.at a.left l.out l.p l.at l.j l.invariant c.loop-j-test.true) w.turn_scalar.ensures)
+      | turn_rows-else-w-ne0 w ↦ turned-at _ a.s.now l.out _ _ _ _ w.out-is w.at-is w.turn_value-at.ensures
+    ]) in
     rw c.size_at-p.ensures.eq (row_next a.d.now (order_of a.o) a.s.now m.out a.k a.start m.at a.left l.out l.p l.at l.j l.invariant c.loop-j-test.true _ _ done)
 
 pub turn_rows-overflow_add-i : goal.turn_rows-overflow_add-i

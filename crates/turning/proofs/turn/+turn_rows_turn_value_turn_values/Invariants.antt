@@ -1,29 +1,11 @@
 -- The pass over a value, over values of one type and over rows of types. The measure is the depth left, three times, and more for more
 -- values. The invariants: with what is left to turn, the output becomes what is promised. Rests on `Parts`, `Remaining` and `Even`.
-use mathlib.Core.Path.{sym, ap, ◌∙◌}
-use mathlib.Core.List.{[], ◌∷◌}
-use mathlib.Core.Logic.{⊎_elim}
-use Prim.Native.Nat.{ℕ, ◌+◌, ◌-◌, ◌*◌, ◌<◌}
-use native.Mathlib.Omega.{arith}
-use Rattle.descriptor.specs.Codes.{string, array, kind_of}
-use Rattle.descriptor.specs.Width.{width_of}
-use Rattle.descriptor.specs.inner.Steps.{kind_is, is_compound}
-use Rattle.descriptor.specs.declared.codes.Kind.TheVariants as kinds
-use Rattle.descriptor.proofs.CodeKinds.{kind_named, known}
-use Rattle.descriptor.proofs.Bodies.{header-room}
-use Rattle.flattened.specs.Walk.{walk, walk_all}
+use Prim.Native.Nat.{◌+◌, ◌-◌, ◌*◌}
+use Rattle.flattened.specs.Walk.{walk_all}
 use Rattle.flattened.specs.inner.Order.{order_of}
-use Rattle.flattened.specs.inner.Types.{type_at, types_at}
-use Rattle.flattened.proofs.Cases.{compound-inside, row_inside, compound}
-use Rattle.flattened.proofs.Named.{not-kind}
-use Rattle.flattened.proofs.Repeats.{repeat-one}
-use Rattle.flattened.proofs.Types.{type-deep, type-solid, alone}
-use Rattle.flattened.proofs.KindWalks.{value-text, value-compound, value-array, walk-texts, walk-compounds, walk-alone}
-use Rattle.turning.specs.inner.Tokens.{Turned}
-use Rattle.turning.proofs.Remaining.{RepeatTurns, repeat-begin, repeat-here, repeat-next, repeat-end, remains-last}
-use Rattle.turning.proofs.Parts.{turnable-as, turned_as, turned-at, scalars-done, scalars-room, scalar-room, scalar-done, array-sizes, array-left, RowTurns, row-begin, row_here, row-ready, row_next, row-end}
-use Rattle.turning.proofs.EvenWalks.{even-laid, even-done}
-use borrow.Author.Rules.{rules}
+use Rattle.flattened.specs.inner.Types.{types_at}
+use Rattle.turning.proofs.Remaining.{RepeatTurns}
+use Rattle.turning.proofs.Parts.{RowTurns}
 use Rattle.turning.proofs.turn.+turn_rows_turn_value_turn_values.Given as goal
 
 abbrev pub decreases-turn_rows : goal.decreases-turn_rows

@@ -1,7 +1,5 @@
 -- `cluster_fields` reads a cluster's member count. Assumes nothing.
-use mathlib.Core.Path.{◌≡◌, refl, sym, ap, ◌∙◌}
-use native.Mathlib.Omega.{arith}
-use borrow.Author.Rules.{rules}
+use mathlib.Core.Path.{sym, ◌∙◌}
 use borrow.Author.Tests.{not-true, not-false}
 use Rattle.descriptor.specs.Limits.{count_limit}
 use Rattle.descriptor.specs.Check.{count_at}

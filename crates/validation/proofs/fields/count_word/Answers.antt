@@ -1,10 +1,6 @@
 -- `count_word` reads the count as document 01 has it. Assumes nothing.
-use mathlib.Core.Path.{◌≡◌, refl, sym, ap, ◌∙◌}
-use native.Mathlib.Omega.{arith}
-use borrow.Author.Rules.{rules}
-use borrow.Author.Tests.{eq-eqb, ne_eqb, le-leb, lt-leb, lt-ltb, le-ltb, not-true, not-false}
+use borrow.Author.Tests.{le-leb, lt-leb}
 use Rattle.descriptor.specs.Check.{count_at}
-use borrow.Author.Rules.{rules}
 use Rattle.validation.proofs.fields.count_word.Goals as goal
 
 pub returns-then-stop-at : goal.returns-then-stop-at

@@ -1,12 +1,9 @@
 -- `counted_words` reads a count and looks for its words. Assumes nothing.
-use mathlib.Core.Path.{◌≡◌, refl, sym, ap, ◌∙◌}
 use native.Mathlib.Omega.{arith}
-use borrow.Author.Rules.{rules}
 use borrow.Author.Tests.{le-leb, lt-leb, not-true, not-false}
 use Rattle.descriptor.specs.Check.{count_at, run_at}
 use Rattle.descriptor.proofs.Steps.{lost, stopped}
 use Rattle.validation.proofs.FieldSteps.{value-got, count-range}
-use borrow.Author.Rules.{rules}
 use Rattle.validation.proofs.fields.counted_words.Goals as goal
 
 pub returns-then-not-c : goal.returns-then-not-c

@@ -1,7 +1,5 @@
 -- `entry_fits` tests a base index or a fixed word. Assumes nothing.
-use mathlib.Core.Path.{◌≡◌, refl, sym, ap, ◌∙◌}
-use native.Mathlib.Omega.{arith}
-use borrow.Author.Rules.{rules}
+use mathlib.Core.Path.{refl}
 use Rattle.descriptor.specs.inner.Steps.{entry_fits}
 use Rattle.validation.proofs.fields.entry_fits.Goals as goal
 

@@ -1,8 +1,7 @@
 -- `enumeration_fields` reads the items in byte order, and the zero byte after them. Assumes nothing.
-use mathlib.Core.Path.{◌≡◌, refl, sym, ap, ◌∙◌}
+use mathlib.Core.Path.{sym, ap, ◌∙◌}
 use native.Mathlib.Omega.{arith}
-use borrow.Author.Rules.{rules}
-use borrow.Author.Tests.{eq-eqb, ne_eqb, le-leb, lt-leb, lt-ltb, le-ltb, not-true, not-false}
+use borrow.Author.Tests.{not-true, not-false}
 use Rattle.descriptor.specs.Limits.{count_limit}
 use Rattle.descriptor.specs.Check.{count_at, items_at}
 use Rattle.descriptor.proofs.Steps.{got, lost}
@@ -12,7 +11,6 @@ use Rattle.descriptor.specs.inner.Steps.{read_step}
 use Rattle.descriptor.proofs.Outcomes.{holds_read}
 use Rattle.descriptor.proofs.Sizes.{items-end}
 use Rattle.validation.proofs.FieldSteps.{value-got, count-range, enumeration-lost, items-lost, items-even, fill-missing, fill-bad, fill-read}
-use borrow.Author.Rules.{rules}
 use Rattle.validation.proofs.fields.enumeration_fields.Goals as goal
 
 pub returns-then-not-c : goal.returns-then-not-c

@@ -1,7 +1,5 @@
 -- `fields` goes by the kind of the code. Assumes nothing.
-use mathlib.Core.Path.{◌≡◌, refl, sym, ap, ◌∙◌}
-use native.Mathlib.Omega.{arith}
-use borrow.Author.Rules.{rules}
+use mathlib.Core.Path.{sym, ap, ◌∙◌}
 use Rattle.descriptor.specs.Codes.{kind_of}
 use Rattle.descriptor.specs.Tree.{count_of, child_count}
 use Rattle.descriptor.specs.Check.{fields_read, contents_at, filled_at, fields_at}

@@ -1,11 +1,7 @@
 -- `judge_entries` judges the run one by one. The invariant: what is judged from here on is what is judged from the start. Assumes nothing.
-use mathlib.Core.Path.{◌≡◌, refl, sym, ap, ◌∙◌}
-use native.Mathlib.Omega.{arith}
-use borrow.Author.Rules.{rules}
-use borrow.Author.Tests.{not-true, not-false}
 use Prim.Native.Nat.{◌-◌}
 use Rattle.descriptor.specs.inner.Steps.{entry_fits}
-use Rattle.descriptor.proofs.Runs.{RunLoop, judged_from, one_less, none_left, run-begin, entry-right, entry-wrong, entries_none}
+use Rattle.descriptor.proofs.Runs.{RunLoop}
 use Rattle.validation.proofs.fields.judge_entries.Given as goal
 
 abbrev pub invariant-loop-i : goal.invariant-loop-i

@@ -1,12 +1,9 @@
 -- The answers to the goals of `packed_strings`.
-use mathlib.Core.Path.{◌≡◌, refl, sym, ap, ◌∙◌}
+use mathlib.Core.Path.{◌≡◌, sym, ap, ◌∙◌}
 use native.Mathlib.Omega.{arith}
-use borrow.Author.Rules.{rules}
-use borrow.Author.Tests.{eq-eqb, ne_eqb, le-leb, lt-leb, lt-ltb, le-ltb, not-true, not-false}
-use Prim.Native.Nat.{ℕ, ◌+◌, ◌-◌, ◌<◌, ◌≤◌}
-use Rattle.descriptor.specs.Check.{items_at}
+use Prim.Native.Nat.{◌+◌}
 use Rattle.descriptor.specs.inner.Steps.{read_step}
-use Rattle.descriptor.proofs.Runs.{ItemsLoop, items_from, one_less, none_left, items-begin, items_more, items-over, items-cut, items-none}
+use Rattle.descriptor.proofs.Runs.{items_from, one_less, none_left, items-begin, items_more, items-over, items-cut, items-none}
 use Rattle.validation.proofs.fields.packed_strings.Goals as goal
 
 pub loop-i-init : goal.loop-i-init
@@ -27,11 +24,11 @@ returns-then-stop-next c = c.overrun-then-stop-next.ensures ∙ sym (c.loop-i.in
 pub loop-i-preserved : goal.loop-i-preserved
 loop-i-preserved c =
     rw c.wide.ensures.eq record {
-  most = omega (arith, c.loop-i-test.true);
-  next = rw c.wide.ensures.eq at c.if-stop-next.false;
-  same = c.loop-i.invariant.same ∙ one_less (λ j. items_from c.args.d.now c.args.stop c.loop-i.i j c.loop-i.at) c.args.k c.loop-i.i c.loop-i-test.true
-      ∙ items_more c.args.d.now c.args.stop _ c.loop-i.i c.loop-i.at c.if-stop-at.false (rw c.wide.ensures.eq at c.if-stop-next.false);
-}
+      most = omega (arith, c.loop-i-test.true);
+      next = rw c.wide.ensures.eq at c.if-stop-next.false;
+      same = c.loop-i.invariant.same ∙ one_less (λ j. items_from c.args.d.now c.args.stop c.loop-i.i j c.loop-i.at) c.args.k c.loop-i.i c.loop-i-test.true
+          ∙ items_more c.args.d.now c.args.stop _ c.loop-i.i c.loop-i.at c.if-stop-at.false (rw c.wide.ensures.eq at c.if-stop-next.false);
+    }
 
 pub returns : goal.returns
 returns c =

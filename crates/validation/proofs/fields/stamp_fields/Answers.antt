@@ -1,6 +1,5 @@
 -- `stamp_fields` judges a time stamp's subtype word. Assumes nothing.
 use mathlib.Core.Path.{sym, ◌∙◌}
-use borrow.Author.Rules.{rules}
 use Rattle.validation.proofs.FieldSteps.{stamp-missing, stamp-other, stamp-read}
 use Rattle.validation.proofs.fields.stamp_fields.Goals as goal
 

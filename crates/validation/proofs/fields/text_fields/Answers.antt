@@ -1,7 +1,5 @@
 -- `text_fields` judges a string's length word. Assumes nothing.
-use mathlib.Core.Path.{◌≡◌, refl, sym, ap, ◌∙◌}
-use native.Mathlib.Omega.{arith}
-use borrow.Author.Rules.{rules}
+use mathlib.Core.Path.{sym, ◌∙◌}
 use borrow.Author.Tests.{not-true, not-false}
 use Rattle.validation.proofs.FieldSteps.{text-missing, text-judged, text-read}
 use Rattle.validation.proofs.fields.text_fields.Goals as goal

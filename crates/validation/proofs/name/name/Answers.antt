@@ -1,16 +1,12 @@
 -- `name` judges what is left of a descriptor. Assumes nothing.
-use mathlib.Core.Path.{◌≡◌, refl, sym, ap, ◌∙◌}
+use mathlib.Core.Path.{sym, ap, ◌∙◌}
 use native.Mathlib.Omega.{arith}
-use borrow.Author.Rules.{rules}
-use borrow.Author.Tests.{eq-eqb, ne_eqb, le-leb, lt-leb, lt-ltb, le-ltb, not-true, not-false}
-use mathlib.Core.Logic.{⊎_elim}
-use lib.Seq.{length-slice}
+use borrow.Author.Tests.{eq-eqb, ne_eqb}
 use mathlib.Core.Logic.{inl, inr}
 use Rattle.descriptor.specs.Check.{name_at}
 use Rattle.descriptor.specs.Table.{length_of_name}
 use Rattle.descriptor.specs.inner.Steps.{read_step}
 use Rattle.validation.proofs.Names.{name-read}
-use borrow.Author.Rules.{rules}
 use Rattle.validation.proofs.name.name.Goals as goal
 use Rattle.validation.proofs.name.name.Goals.{then-odd-ne0+else-d-last-ne0, else-odd-ne0}
 

@@ -1,5 +1,4 @@
 -- `bare_at` looks at the two words. Assumes nothing.
-use borrow.Author.Rules.{rules}
 use borrow.Author.Tests.{eq-eqb, ne_eqb}
 use Rattle.validation.proofs.rest.bare_at.Goals as goal
 

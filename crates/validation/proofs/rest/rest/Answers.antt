@@ -1,8 +1,5 @@
 -- `rest` looks at what stands inside a time stamp, then at the name. Assumes nothing.
 use mathlib.Core.Path.{refl, sym, ◌∙◌}
-use mathlib.Core.Logic.{⊎_elim}
-use borrow.Author.Rules.{rules}
-use borrow.Author.Tests.{not-true, not-false}
 use Rattle.validation.specs.inner.Rest.{rest_at}
 use Rattle.validation.proofs.rest.rest.Goals as goal
 use Rattle.validation.proofs.rest.rest.Goals.{then-is_stamp+else-not-stamp_at, else-is_stamp}
@@ -21,6 +18,6 @@ unfolding rest_at
 returns c =
     c.name.ensures
     ∙ elim c.if-is_stamp.branch [
-      then-is_stamp+else-not-stamp_at u ↦ sym (rw (sym c.is_stamp.ensures ∙ u.if-is_stamp.true, sym u.stamp_at.ensures ∙ u.if-not-stamp_at.false) refl)
-    | else-is_stamp u ↦ sym (rw (sym c.is_stamp.ensures ∙ u.if-is_stamp.false) refl)
+      | then-is_stamp+else-not-stamp_at u ↦ sym (rw (sym c.is_stamp.ensures ∙ u.if-is_stamp.true, sym u.stamp_at.ensures ∙ u.if-not-stamp_at.false) refl)
+      | else-is_stamp u ↦ sym (rw (sym c.is_stamp.ensures ∙ u.if-is_stamp.false) refl)
     ]

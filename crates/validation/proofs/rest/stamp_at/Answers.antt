@@ -1,8 +1,7 @@
 -- `stamp_at` looks at the size, the code, the count and the four headers after it. Rests on `Rests`.
 use mathlib.Core.Path.{sym, ◌∙◌}
 use native.Mathlib.Omega.{arith}
-use borrow.Author.Rules.{rules}
-use borrow.Author.Tests.{eq-eqb, ne_eqb, not-true, not-false}
+use borrow.Author.Tests.{eq-eqb, ne_eqb}
 use Rattle.validation.proofs.Rests.{stamp-spread}
 use Rattle.validation.proofs.rest.stamp_at.Goals as goal
 

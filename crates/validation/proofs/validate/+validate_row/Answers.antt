@@ -1,14 +1,11 @@
 -- The answers to the goals of `+validate_row`.
-use mathlib.Core.Path.{◌≡◌, refl, sym, ap, ◌∙◌}
-use mathlib.Core.Logic.{⊎_elim}
-use mathlib.Core.Bool.{Bool}
+use mathlib.Core.Path.{◌≡◌, sym, ap, ◌∙◌}
 use native.Mathlib.Omega.{arith}
-use borrow.Author.Rules.{rules}
 use borrow.Author.Tests.{not-true, not-false}
 use Prim.Native.Nat.{◌+◌, ◌-◌, ◌≤◌}
 use lib.ListN.{length}
 use Rattle.descriptor.specs.Codes.{kind_of, is_array}
-use Rattle.descriptor.specs.Outcome.{Outcome, refused, read}
+use Rattle.descriptor.specs.Outcome.{Outcome, read}
 use Rattle.descriptor.specs.inner.Promises.{row_step}
 use Rattle.descriptor.specs.Tree.{Tree, Forest, node, count_of, child_count, row_count, forest_rows}
 use Rattle.descriptor.specs.Table.{length_of_name}
@@ -20,8 +17,8 @@ use Rattle.descriptor.proofs.Outcomes.{holds_read}
 use Rattle.descriptor.proofs.Sizes.{fields-end}
 use Rattle.descriptor.proofs.Standing.{members-standing}
 use Rattle.descriptor.proofs.Steps.{got, lost}
-use Rattle.validation.proofs.Members.{RowLoop, Inside, head-got, head-lost, tree-lost, tree-opened, rest-ends, fields-lost, children-lost, rest-lost, node-read, loop-begin, loop-more, loop-lost, loop-done, no-children, some-children}
-use Prim.Native.Nat.{ℕ, ◌<◌}
+use Rattle.validation.proofs.Members.{Inside, head-got, head-lost, tree-lost, tree-opened, rest-ends, fields-lost, children-lost, rest-lost, node-read, loop-begin, loop-more, loop-lost, loop-done, no-children, some-children}
+use Prim.Native.Nat.{ℕ}
 use Rattle.validation.proofs.validate.+validate_row.Goals as goal
 use Rattle.validation.proofs.validate.+validate_row.Goals.{then-b-gt0+else-not-w, else-b-gt0}
 
@@ -139,16 +136,16 @@ rest-m-requires t c =
     let fg = got count_of child_count (fields_at (kind_of h.result.code) s l.p h.result.body stop) b.result b.ensures (not-false _ c.if-not-b.false) in
     let e = holds_read fg.eq (fields-end s l.p stop fit (kind_of h.result.code) h.result.body good.body (omega (arith, good.body, good.least))) in
     let v : Inside (members_at (λ q m. tree_at (a.levels - 1) s (is_array (kind_of h.result.code)) stop q m) (child_count fg.value) b.result.next (l.rows + 1)) stop (l.rows + 1) c.if-b-gt0.at c.if-b-gt0.rows =
-      elim c.if-b-gt0.branch [
-        then-b-gt0+else-not-w u ↦
-        onward _ _ _ _ _ _
-        (some-children s (a.levels - 1) (is_array (kind_of h.result.code)) stop (child_count fg.value) b.result.next (l.rows + 1) u.validate_row-w.result fit e.within (u.validate_row-w.ensures ∙ (λ j. row_step s (a.levels - 1) (u.is_array.ensures j) (l.p + h.result.size) (fg.inside j) b.result.next (l.rows + 1))) (not-false _ u.if-not-w.false))
-        u.at-is u.rows-is
+    elim c.if-b-gt0.branch [
+      | then-b-gt0+else-not-w u ↦
+          onward _ _ _ _ _ _
+          (some-children s (a.levels - 1) (is_array (kind_of h.result.code)) stop (child_count fg.value) b.result.next (l.rows + 1) u.validate_row-w.result fit e.within (u.validate_row-w.ensures ∙ (λ j. row_step s (a.levels - 1) (u.is_array.ensures j) (l.p + h.result.size) (fg.inside j) b.result.next (l.rows + 1))) (not-false _ u.if-not-w.false))
+          u.at-is u.rows-is
       | else-b-gt0 u ↦
-        let none : child_count fg.value ≡ 0 = omega (arith, u.if-b-gt0.false, fg.inside) in
-        onward _ _ _ _ _ _ (no-children (λ q m. tree_at (a.levels - 1) s (is_array (kind_of h.result.code)) stop q m) stop (child_count fg.value) b.result.next (l.rows + 1) none e.within)
-        u.at-is u.rows-is
-      ] in
+          let none : child_count fg.value ≡ 0 = omega (arith, u.if-b-gt0.false, fg.inside) in
+          onward _ _ _ _ _ _ (no-children (λ q m. tree_at (a.levels - 1) s (is_array (kind_of h.result.code)) stop q m) stop (child_count fg.value) b.result.next (l.rows + 1) none e.within)
+          u.at-is u.rows-is
+    ] in
     let up = members-standing s (a.levels - 1) (is_array (kind_of h.result.code)) stop (omega (arith, c.requires.levels_le_depth_limit)) fit (child_count fg.value) b.result.next (l.rows + 1) c.if-b-gt0.at v.forest v.eq in
     record {
       within = record { from = v.within; inside = fit; small = c.requires.within.small };
@@ -170,16 +167,16 @@ returns-then-not-m t c =
     let fit : stop ≤ length s = omega (arith, good.inside, c.requires.within.inside) in
     let e = holds_read fg.eq (fields-end s l.p stop fit (kind_of h.result.code) h.result.body good.body (omega (arith, good.body, good.least))) in
     let v : Inside (members_at (λ q m. tree_at (a.levels - 1) s (is_array (kind_of h.result.code)) stop q m) (child_count fg.value) b.result.next (l.rows + 1)) stop (l.rows + 1) c.if-b-gt0.at c.if-b-gt0.rows =
-      elim c.if-b-gt0.branch [
-        then-b-gt0+else-not-w u ↦
-        onward _ _ _ _ _ _
-        (some-children s (a.levels - 1) (is_array (kind_of h.result.code)) stop (child_count fg.value) b.result.next (l.rows + 1) u.validate_row-w.result fit e.within (u.validate_row-w.ensures ∙ (λ j. row_step s (a.levels - 1) (u.is_array.ensures j) (l.p + h.result.size) (fg.inside j) b.result.next (l.rows + 1))) (not-false _ u.if-not-w.false))
-        u.at-is u.rows-is
+    elim c.if-b-gt0.branch [
+      | then-b-gt0+else-not-w u ↦
+          onward _ _ _ _ _ _
+          (some-children s (a.levels - 1) (is_array (kind_of h.result.code)) stop (child_count fg.value) b.result.next (l.rows + 1) u.validate_row-w.result fit e.within (u.validate_row-w.ensures ∙ (λ j. row_step s (a.levels - 1) (u.is_array.ensures j) (l.p + h.result.size) (fg.inside j) b.result.next (l.rows + 1))) (not-false _ u.if-not-w.false))
+          u.at-is u.rows-is
       | else-b-gt0 u ↦
-        let none : child_count fg.value ≡ 0 = omega (arith, u.if-b-gt0.false, fg.inside) in
-        onward _ _ _ _ _ _ (no-children (λ q m. tree_at (a.levels - 1) s (is_array (kind_of h.result.code)) stop q m) stop (child_count fg.value) b.result.next (l.rows + 1) none e.within)
-        u.at-is u.rows-is
-      ] in
+          let none : child_count fg.value ≡ 0 = omega (arith, u.if-b-gt0.false, fg.inside) in
+          onward _ _ _ _ _ _ (no-children (λ q m. tree_at (a.levels - 1) s (is_array (kind_of h.result.code)) stop q m) stop (child_count fg.value) b.result.next (l.rows + 1) none e.within)
+          u.at-is u.rows-is
+    ] in
     let up = members-standing s (a.levels - 1) (is_array (kind_of h.result.code)) stop (omega (arith, c.requires.levels_le_depth_limit)) fit (child_count fg.value) b.result.next (l.rows + 1) c.if-b-gt0.at v.forest v.eq in
     let fits = inside-same s (kind_of h.result.code) (child_count fg.value) b.result.next c.if-b-gt0.at v.forest (λ i. stamp-one s (kind_of h.result.code) l.p h.result.body stop b.result.next fg.value i fg.eq) up in
     let bad = lost length_of_name (λ _. 0) (rest_at (kind_of h.result.code) s l.p b.result.next (l.p + h.result.size) c.if-b-gt0.at) c.rest-m.result c.rest-m.ensures (not-true _ c.if-not-m.true) in
@@ -207,16 +204,16 @@ loop-i-preserved t c =
     let fit : stop ≤ length s = omega (arith, good.inside, c.requires.within.inside) in
     let e = holds_read fg.eq (fields-end s l.p stop fit (kind_of h.result.code) h.result.body good.body (omega (arith, good.body, good.least))) in
     let v : Inside (members_at (λ q m. tree_at (a.levels - 1) s (is_array (kind_of h.result.code)) stop q m) (child_count fg.value) b.result.next (l.rows + 1)) stop (l.rows + 1) c.if-b-gt0.at c.if-b-gt0.rows =
-      elim c.if-b-gt0.branch [
-        then-b-gt0+else-not-w u ↦
-        onward _ _ _ _ _ _
-        (some-children s (a.levels - 1) (is_array (kind_of h.result.code)) stop (child_count fg.value) b.result.next (l.rows + 1) u.validate_row-w.result fit e.within (u.validate_row-w.ensures ∙ (λ j. row_step s (a.levels - 1) (u.is_array.ensures j) (l.p + h.result.size) (fg.inside j) b.result.next (l.rows + 1))) (not-false _ u.if-not-w.false))
-        u.at-is u.rows-is
+    elim c.if-b-gt0.branch [
+      | then-b-gt0+else-not-w u ↦
+          onward _ _ _ _ _ _
+          (some-children s (a.levels - 1) (is_array (kind_of h.result.code)) stop (child_count fg.value) b.result.next (l.rows + 1) u.validate_row-w.result fit e.within (u.validate_row-w.ensures ∙ (λ j. row_step s (a.levels - 1) (u.is_array.ensures j) (l.p + h.result.size) (fg.inside j) b.result.next (l.rows + 1))) (not-false _ u.if-not-w.false))
+          u.at-is u.rows-is
       | else-b-gt0 u ↦
-        let none : child_count fg.value ≡ 0 = omega (arith, u.if-b-gt0.false, fg.inside) in
-        onward _ _ _ _ _ _ (no-children (λ q m. tree_at (a.levels - 1) s (is_array (kind_of h.result.code)) stop q m) stop (child_count fg.value) b.result.next (l.rows + 1) none e.within)
-        u.at-is u.rows-is
-      ] in
+          let none : child_count fg.value ≡ 0 = omega (arith, u.if-b-gt0.false, fg.inside) in
+          onward _ _ _ _ _ _ (no-children (λ q m. tree_at (a.levels - 1) s (is_array (kind_of h.result.code)) stop q m) stop (child_count fg.value) b.result.next (l.rows + 1) none e.within)
+          u.at-is u.rows-is
+    ] in
     let m = c.rest-m in
     let up = members-standing s (a.levels - 1) (is_array (kind_of h.result.code)) stop (omega (arith, c.requires.levels_le_depth_limit)) fit (child_count fg.value) b.result.next (l.rows + 1) c.if-b-gt0.at v.forest v.eq in
     let fits = inside-same s (kind_of h.result.code) (child_count fg.value) b.result.next c.if-b-gt0.at v.forest (λ i. stamp-one s (kind_of h.result.code) l.p h.result.body stop b.result.next fg.value i fg.eq) up in

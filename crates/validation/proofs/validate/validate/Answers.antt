@@ -1,17 +1,13 @@
 -- `validate` judges the top descriptor and what stands after it. Assumes nothing.
-use mathlib.Core.Path.{◌≡◌, refl, sym, ap, ◌∙◌}
+use mathlib.Core.Path.{◌∙◌}
 use mathlib.Core.Bool.{false}
-use native.Mathlib.Omega.{arith}
-use borrow.Author.Rules.{rules}
 use borrow.Author.Tests.{ne_eqb, le-leb, lt-leb, not-true, not-false}
 use lib.ListN.{length}
 use Rattle.descriptor.specs.Limits.{descriptor_limit, depth_limit}
 use Rattle.descriptor.specs.Tree.{row_count}
 use Rattle.descriptor.specs.Check.{tree_at, checked}
-use Rattle.descriptor.specs.inner.Steps.{counted}
 use Rattle.descriptor.proofs.Steps.{got, lost, stopped}
 use Rattle.validation.proofs.Members.{row_one, whole-read}
-use borrow.Author.Rules.{rules}
 use Rattle.validation.proofs.validate.validate.Goals as goal
 
 pub returns-then-d-gt-DESCRIPTOR_LIMIT : goal.returns-then-d-gt-DESCRIPTOR_LIMIT

@@ -5,7 +5,6 @@ use Rattle.flattened.specs.inner.Order.{order_of}
 use Rattle.flattened.specs.inner.Types.{type_at}
 use Rattle.flattened.proofs.Types.{type-solid}
 use Rattle.walking.proofs.Passing.{front-refused, front-sized, front-within, front-left}
-use borrow.Author.Rules.{rules}
 use Rattle.walking.proofs.arrays.array_front.Goals as goal
 
 pub size_words-sizes-requires : goal.size_words-sizes-requires

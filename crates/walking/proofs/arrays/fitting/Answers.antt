@@ -1,11 +1,9 @@
 -- `fitting` meets its contract: a product where it is small, a quotient else.
 use mathlib.Core.Path.{sym}
-use mathlib.Core.Logic.{⊎_elim}
 use Prim.Native.Nat.{◌*◌, ◌/◌, ◌^◌, ◌≤◌}
 use native.Mathlib.Nat.{mul-le-mul, div-le_self, min-eq_left, min-eq_right}
 use native.Mathlib.Omega.{arith}
 use Rattle.walking.proofs.Passing.{fits_all, fits-fewer}
-use borrow.Author.Rules.{rules}
 use Rattle.walking.proofs.arrays.fitting.Goals as goal
 use Rattle.walking.proofs.arrays.fitting.Goals.{then-n-room+else-n-w, else-n-room}
 

@@ -4,7 +4,6 @@ use native.Mathlib.Omega.{arith}
 use Rattle.flattened.specs.inner.Order.{order_of}
 use Rattle.flattened.proofs.Cases.{rule-narrow}
 use Rattle.walking.proofs.Passing.{any-kept, low-kept}
-use borrow.Author.Rules.{rules}
 use Rattle.walking.proofs.arrays.kept.Goals as goal
 
 pub rule_of-rule-requires : goal.rule_of-rule-requires

@@ -1,12 +1,10 @@
 -- The answers to the goals of `pass_around`.
-use mathlib.Core.Path.{sym, subst, ◌∙◌}
-use Prim.Native.Nat.{◌-◌}
+use mathlib.Core.Path.{subst}
 use native.Mathlib.Omega.{arith}
 use Rattle.flattened.specs.inner.Order.{order_of}
 use Rattle.flattened.specs.inner.Columns.{Across}
 use Rattle.flattened.specs.declared.cursor.Skip.{Skip}
-use Rattle.walking.proofs.Arounds.{AroundLoop, around-begin, around-next, around-passes}
-use borrow.Author.Rules.{rules}
+use Rattle.walking.proofs.Arounds.{around-begin, around-next, around-passes}
 use Rattle.walking.proofs.arrays.pass_around.Goals as goal
 
 pub loop-count-init : goal.loop-count-init

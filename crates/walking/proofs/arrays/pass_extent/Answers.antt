@@ -12,7 +12,6 @@ use Rattle.flattened.proofs.Types.{type-size}
 use Rattle.flattened.proofs.ExtentTurns.{Small, type-few}
 use Rattle.elements.specs.inner.Placing.{Roomy}
 use Rattle.walking.proofs.Passing.{fitting-most, fitting-fewer, pass-none, pass-more}
-use borrow.Author.Rules.{rules}
 use Rattle.walking.proofs.arrays.pass_extent.Goals as goal
 
 pub fitting-fit-requires : goal.fitting-fit-requires

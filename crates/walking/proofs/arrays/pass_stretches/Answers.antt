@@ -1,13 +1,11 @@
 -- The answers to the goals of `pass_stretches`.
 use mathlib.Core.Path.{ap}
-use Prim.Native.Nat.{◌+◌, ◌-◌, ◌<◌}
+use Prim.Native.Nat.{◌+◌}
 use native.Mathlib.Omega.{arith}
-use borrow.Author.Rules.{rules}
 use Rattle.flattened.specs.inner.Order.{order_of}
 use Rattle.flattened.specs.inner.Types.{type_at}
 use Rattle.flattened.proofs.Types.{type-solid}
 use Rattle.flattened.specs.declared.cursor.Cursor.{Cursor}
-use Rattle.walking.specs.inner.Fronts.{Passes}
 use Rattle.walking.specs.declared.arrays.Passed.{Passed}
 use Rattle.walking.proofs.Passing.{pass-none, passed-within, pass-next}
 use Rattle.walking.proofs.arrays.pass_stretches.Goals as goal

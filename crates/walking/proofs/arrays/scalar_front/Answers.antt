@@ -8,7 +8,6 @@ use Rattle.flattened.specs.inner.Order.{order_of}
 use Rattle.flattened.specs.inner.Types.{type_at, Solid}
 use Rattle.flattened.proofs.Types.{standing-solid, type-read}
 use Rattle.walking.proofs.Passing.{front-refused, front-sized, front-within, front-left}
-use borrow.Author.Rules.{rules}
 use Rattle.walking.proofs.arrays.scalar_front.Goals as goal
 
 -- every token of a type that stands takes at least one byte

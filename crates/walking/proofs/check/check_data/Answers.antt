@@ -2,7 +2,6 @@
 use mathlib.Core.Path.{◌∙◌}
 use Rattle.flattened.specs.inner.Order.{order_of}
 use Rattle.walking.proofs.Checking.{check-big}
-use borrow.Author.Rules.{rules}
 use Rattle.walking.proofs.check.check_data.Goals as goal
 
 pub returns : goal.returns

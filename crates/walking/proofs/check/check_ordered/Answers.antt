@@ -8,7 +8,6 @@ use Rattle.descriptor.proofs.Steps.{got}
 use Rattle.descriptor.proofs.Checked.{judged-refused, judged-place}
 use Rattle.flattened.specs.inner.Order.{order_of}
 use Rattle.walking.proofs.Checking.{check-refused, top-stands, check-long, check-place, check-stopped, check-ahead, check-over, check-whole}
-use borrow.Author.Rules.{rules}
 use Rattle.walking.proofs.check.check_ordered.Goals as goal
 
 pub answered-requires : goal.answered-requires

@@ -1,9 +1,6 @@
 -- The answers to the goals of `+array_row_rows_value_walk`.
-use borrow.Author.Rules.{rules}
 use mathlib.Core.Path.{◌≡◌, sym, ap, subst, ◌∙◌}
-use mathlib.Core.List.{[], ◌∷◌}
-use mathlib.Core.Logic.{⊎_elim}
-use Prim.Native.Nat.{◌+◌, ◌-◌, ◌*◌, ◌≤◌, ℕ, ◌<◌}
+use Prim.Native.Nat.{◌≤◌}
 use native.Mathlib.Omega.{arith}
 use lib.ListN.{length}
 use Rattle.descriptor.specs.Codes.{string, array, kind_of}
@@ -19,13 +16,12 @@ use Rattle.flattened.specs.inner.Types.{type_at, types_at}
 use Rattle.walking.specs.inner.Fronts.{resumed, Resumable, FrontMet}
 use Rattle.walking.specs.declared.arrays.Front.{Front}
 use Rattle.flattened.specs.declared.progress.Progress.{Progress}
-use Rattle.flattened.proofs.Named.{not-kind}
 use Rattle.flattened.proofs.Cases.{compound-inside, row_inside, compound}
 use Rattle.flattened.proofs.Types.{type-deep, alone}
 use Rattle.flattened.proofs.Repeats.{repeat-one}
-use Rattle.flattened.proofs.Turns.{RepeatLoop, repeat-begin, repeat-next, repeat-stop, repeat-end}
+use Rattle.flattened.proofs.Turns.{repeat-begin, repeat-next, repeat-stop, repeat-end}
 use Rattle.flattened.proofs.KindWalks.{value-text, value-compound, value-array, walk-texts, walk-compounds, walk-alone}
-use Rattle.walking.proofs.Walks.{Ahead, RowLoop, row-begin, row_here, row-stop, row-ahead, row_next, row-end, types-ahead, values-few}
+use Rattle.walking.proofs.Walks.{row-begin, row_here, row-stop, row-ahead, row_next, row-end, types-ahead, values-few}
 use Rattle.descriptor.specs.Header.{code_in}
 use Rattle.walking.proofs.walk.+array_row_rows_value_walk.Goals as goal
 use Rattle.walking.proofs.walk.+array_row_rows_value_walk.Goals.{row-then-w-ne0, row-else-w-ne0, value-then-w-ne0, value-else-w-ne0}
@@ -282,8 +278,8 @@ value-array-requires t c =
     let inner = value-array d a.p a.left c.requires.type_stands _ c.inside_of-inside.ensures kind in
     let met : FrontMet (order_of a.o) c.inside_of-inside.result.count (type_at d c.inside_of-inside.result.at) s a.from.at c.if-w-ne0.front =
     elim c.if-w-ne0.branch [
-      value-then-w-ne0 u ↦ subst (λ (f : Front). FrontMet _ _ _ _ _ f) (sym u.front-is) u.scalar_front-front.ensures
-    | value-else-w-ne0 u ↦ subst (λ (f : Front). FrontMet _ _ _ _ _ f) (sym u.front-is) u.array_front-front.ensures
+      | value-then-w-ne0 u ↦ subst (λ (f : Front). FrontMet _ _ _ _ _ f) (sym u.front-is) u.scalar_front-front.ensures
+      | value-else-w-ne0 u ↦ subst (λ (f : Front). FrontMet _ _ _ _ _ f) (sym u.front-is) u.array_front-front.ensures
     ] in
     (omega (arith, c.decreases, type-deep d a.p a.left c.requires.type_stands), (inner.element, (met.within, c.requires.data_at.short)))
 
@@ -297,8 +293,8 @@ value-returns-in-Array t c =
     let inner = value-array d a.p a.left c.requires.type_stands _ c.inside_of-inside.ensures kind in
     let met : FrontMet (order_of a.o) c.inside_of-inside.result.count (type_at d c.inside_of-inside.result.at) s a.from.at c.if-w-ne0.front =
     elim c.if-w-ne0.branch [
-      value-then-w-ne0 u ↦ subst (λ (f : Front). FrontMet _ _ _ _ _ f) (sym u.front-is) u.scalar_front-front.ensures
-    | value-else-w-ne0 u ↦ subst (λ (f : Front). FrontMet _ _ _ _ _ f) (sym u.front-is) u.array_front-front.ensures
+      | value-then-w-ne0 u ↦ subst (λ (f : Front). FrontMet _ _ _ _ _ f) (sym u.front-is) u.scalar_front-front.ensures
+      | value-else-w-ne0 u ↦ subst (λ (f : Front). FrontMet _ _ _ _ _ f) (sym u.front-is) u.array_front-front.ensures
     ] in
     c.array.ensures ∙ sym met.eq ∙ sym (ap progress (inner.walked (order_of a.o) s a.from.at))
 

@@ -4,7 +4,6 @@ use Prim.Native.Nat.{◌+◌, ◌<◌, ◌^◌}
 use native.Mathlib.Omega.{arith}
 use Rattle.flattened.specs.inner.Progress.{plus, tokens_of}
 use Rattle.flattened.specs.declared.progress.Progress.{Progress}
-use borrow.Author.Rules.{rules}
 use Rattle.walking.proofs.walk.after.Goals as goal
 
 pub overflow_add-result : goal.overflow_add-result

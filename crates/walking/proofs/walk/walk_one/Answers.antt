@@ -9,7 +9,6 @@ use Rattle.flattened.specs.inner.Progress.{progress}
 use Rattle.flattened.proofs.Cases.{compound-inside, row_inside}
 use Rattle.flattened.proofs.KindWalks.{value-compound, value-alone}
 use Rattle.flattened.proofs.Types.{type-deep, alone}
-use borrow.Author.Rules.{rules}
 use Rattle.walking.proofs.walk.walk_one.Goals as goal
 
 pub code_at-requires : goal.code_at-requires

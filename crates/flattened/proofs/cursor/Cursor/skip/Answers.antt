@@ -3,7 +3,6 @@ use mathlib.Core.Path.{ap, ◌∙◌}
 use native.Mathlib.Omega.{arith}
 use Rattle.flattened.specs.declared.cursor.Skip.TheVariants.{To}
 use Rattle.flattened.proofs.Steps.{skip-fits, skip-short}
-use borrow.Author.Rules.{rules}
 use Rattle.flattened.proofs.cursor.Cursor.skip.Goals as goal
 
 pub returns-then-s-self : goal.returns-then-s-self

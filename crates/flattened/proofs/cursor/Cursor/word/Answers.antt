@@ -5,7 +5,6 @@ use Rattle.flattened.specs.inner.Order.{order_of}
 use Rattle.flattened.specs.declared.cursor.Cursor.{Cursor}
 use Rattle.flattened.specs.declared.cursor.Word.TheVariants.{Read}
 use Rattle.flattened.proofs.Steps.{skip-to, skip-cut, word-fits, word-short}
-use borrow.Author.Rules.{rules}
 use Rattle.flattened.proofs.cursor.Cursor.word.Goals as goal
 
 pub returns-in_default : goal.returns-in_default
