@@ -19,10 +19,10 @@ ARCHIVE = target/staticlib/libkerbcanopy.a
 COMMAND = host/target/release/kerbcanopy
 HOST = --release --offline --locked --manifest-path host/Cargo.toml --target-dir host/target
 # The crates that the library is made of, each behind those that it uses.
-CRATES := $(shell awk -F '[: ]+' '{ uses[$$1] = $$0; name[NR] = $$1 } END { need["kerbcanopy"] = 1; \
+CRATES := $(shell awk -F '[: ]+' '{ uses[$$1] = $$0; name[NR] = $$1 } END { need["kerbcanopy_c"] = 1; \
     for (i = NR; i; i--) if (need[name[i]]) { n = split(uses[name[i]], u); for (j = 2; j <= n; j++) need[u[j]] = 1 } \
-    for (i = 1; i <= NR; i++) if (need[name[i]] && name[i] != "kerbcanopy") print name[i] }' crates.txt)
-PROVED := crates.txt $(shell find crates -name '*.rt' -o -name '*.antt')
+    for (i = 1; i <= NR; i++) if (need[name[i]] && name[i] != "kerbcanopy_c") print name[i] }' crates.txt)
+PROVED := crates.txt .ci/library $(shell find crates -path '*/out' -prune -o \( -name '*.rt' -o -name '*.antt' \) -print)
 # What the command is built from; a test of it changes nothing.
 COMMANDED := host/Cargo.toml host/Cargo.lock $(shell find host/binding host/cli -type f -not -path '*/tests/*')
 
@@ -67,7 +67,7 @@ uninstall: ## takes away what install put below the same PREFIX
 	@$(PLACE) take
 
 clean: ## takes away all that was built
-	rm -rf target host/target
+	rm -rf target host/target crates/*/out
 
 library: $(ARCHIVE)
 
@@ -79,10 +79,10 @@ $(ARCHIVE): $(PROVED)
 	@: > target/library.log
 	@for crate in $(CRATES); do \
 	    echo "proving $$crate" >&2; \
-	    .ci/in-memory rt check $$crate >> target/library.log 2>&1 || { cat target/library.log >&2; exit 1; }; \
+	    (cd crates/$$crate && rt check) >> target/library.log 2>&1 || { cat target/library.log >&2; exit 1; }; \
 	done
-	@echo "proving kerbcanopy, and building the library" >&2
-	@.ci/in-memory rt staticlib kerbcanopy >> target/library.log 2>&1 || { cat target/library.log >&2; exit 1; }
+	@echo "proving kerbcanopy_c, and building the library" >&2
+	@.ci/library >> target/library.log 2>&1 || { cat target/library.log >&2; exit 1; }
 	@touch -c $(ARCHIVE)
 
 # Built only where something is newer, so that a root without cargo can install what somebody else built.

@@ -20,10 +20,10 @@ FILLS = {"code and proofs": "#cfe8f3", "theorems alone": "#fbe0b5", "a program o
 
 
 def listed() -> Dict[str, List[str]]:
-    """Each crate with those of the repository that it uses."""
+    """Each crate with those of the repository that it uses. Behind its name a line may say what it is built as."""
     lines = [line.split("#")[0] for line in pathlib.Path("crates.txt").read_text(encoding="utf-8").splitlines()]
-    named = dict(line.split(":") for line in lines if line.strip())
-    return {name: [one for one in uses.split() if one in named] for name, uses in named.items()}
+    named = {line.split()[0].rstrip(":"): line.partition(":")[2].split() for line in lines if line.strip()}
+    return {name: [one for one in uses if one in named] for name, uses in named.items()}
 
 
 def levels(uses: Dict[str, List[str]]) -> Dict[str, int]:

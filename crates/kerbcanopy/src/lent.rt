@@ -17,12 +17,7 @@ ghost use Rattle.layout.specs.Numbers.{answer_numbers, table_numbers, truth};
 use layout::{put_answer, put_rows, put_truth, rows_used};
 
 // `table` gets the 256 rows one after another, each as its seven numbers.
-#[unsafe(no_mangle)]
-pub extern "C" fn kc_check_descriptor_into(
-    descriptor: &[u8],
-    answer: &mut [u32; 3],
-    table: &mut [u16; 1792],
-)
+pub fn kc_check_descriptor_into(descriptor: &[u8], answer: &mut [u32; 3], table: &mut [u16; 1792])
     ensures answer { answer.new ≡ answer_numbers (descriptor_check descriptor.now).answer }
     ensures table { table.new ≡ table_numbers (descriptor_check descriptor.now).rows }
 {
@@ -34,13 +29,7 @@ pub extern "C" fn kc_check_descriptor_into(
 }
 
 // `equal` gets 1 for yes and 0 for no.
-#[unsafe(no_mangle)]
-pub extern "C" fn kc_compare_into(
-    first: &[u8],
-    second: &[u8],
-    answer: &mut [u32; 3],
-    equal: &mut u8,
-)
+pub fn kc_compare_into(first: &[u8], second: &[u8], answer: &mut [u32; 3], equal: &mut u8)
     ensures answer { answer.new ≡ answer_numbers (comparison first.now second.now).answer }
     ensures equal { equal.new ≡ truth (comparison first.now second.now).equal }
 {
@@ -49,8 +38,7 @@ pub extern "C" fn kc_compare_into(
     put_truth(compared.equal, equal);
 }
 
-#[unsafe(no_mangle)]
-pub extern "C" fn kc_normal_form_into(descriptor: &[u8], out: &mut [u8], answer: &mut [u32; 3])
+pub fn kc_normal_form_into(descriptor: &[u8], out: &mut [u8], answer: &mut [u32; 3])
     ensures answer { answer.new ≡ answer_numbers (normal_form descriptor.now out.old).answer }
     ensures wrote { out.new ≡ (normal_form descriptor.now out.old).out }
 {
@@ -58,8 +46,7 @@ pub extern "C" fn kc_normal_form_into(descriptor: &[u8], out: &mut [u8], answer:
     put_answer(normal, answer);
 }
 
-#[unsafe(no_mangle)]
-pub extern "C" fn kc_check_data_into(descriptor: &[u8], data: &[u8], answer: &mut [u32; 3])
+pub fn kc_check_data_into(descriptor: &[u8], data: &[u8], answer: &mut [u32; 3])
     ensures { answer.new ≡ answer_numbers (data_check descriptor.now «data».now) }
 {
     let walked = super::kc_check_data(descriptor, data);
@@ -67,8 +54,7 @@ pub extern "C" fn kc_check_data_into(descriptor: &[u8], data: &[u8], answer: &mu
 }
 
 // `start` and `length` get where the part starts in the data and how long it is.
-#[unsafe(no_mangle)]
-pub extern "C" fn kc_view_into(
+pub fn kc_view_into(
     descriptor: &[u8],
     data: &[u8],
     path: &[u32],
@@ -87,8 +73,7 @@ pub extern "C" fn kc_view_into(
 }
 
 // `kind` and `bits` get the value's.
-#[unsafe(no_mangle)]
-pub extern "C" fn kc_read_value_into(
+pub fn kc_read_value_into(
     descriptor: &[u8],
     data: &[u8],
     path: &[u32],
@@ -106,8 +91,7 @@ pub extern "C" fn kc_read_value_into(
     *bits = read.bits;
 }
 
-#[unsafe(no_mangle)]
-pub extern "C" fn kc_to_little_endian_into(
+pub fn kc_to_little_endian_into(
     descriptor: &[u8],
     data: &[u8],
     out: &mut [u8],
@@ -120,8 +104,7 @@ pub extern "C" fn kc_to_little_endian_into(
     put_answer(little, answer);
 }
 
-#[unsafe(no_mangle)]
-pub extern "C" fn kc_from_little_endian_into(
+pub fn kc_from_little_endian_into(
     descriptor: &[u8],
     data: &[u8],
     out: &mut [u8],
@@ -134,8 +117,7 @@ pub extern "C" fn kc_from_little_endian_into(
     put_answer(big, answer);
 }
 
-#[unsafe(no_mangle)]
-pub extern "C" fn kc_read_record_into(
+pub fn kc_read_record_into(
     writer: &[u8],
     reader: &[u8],
     data: &[u8],
@@ -150,8 +132,7 @@ pub extern "C" fn kc_read_record_into(
 }
 
 // `seconds` and `fraction` get the difference's.
-#[unsafe(no_mangle)]
-pub extern "C" fn kc_stamp_difference_into(
+pub fn kc_stamp_difference_into(
     first_seconds_high: i32,
     first_seconds_low: i32,
     first_fraction_high: u32,
@@ -184,21 +165,14 @@ pub extern "C" fn kc_stamp_difference_into(
     *fraction = difference.fraction;
 }
 
-#[unsafe(no_mangle)]
-pub extern "C" fn kc_store_check_into(store: &[u8], answer: &mut [u32; 3])
+pub fn kc_store_check_into(store: &[u8], answer: &mut [u32; 3])
     ensures { answer.new ≡ answer_numbers (book_check store.now) }
 {
     let checked = super::book::kc_store_check(store);
     put_answer(checked, answer);
 }
 
-#[unsafe(no_mangle)]
-pub extern "C" fn kc_store_add_into(
-    store: &mut [u8],
-    descriptor: &[u8],
-    data: &[u8],
-    answer: &mut [u32; 3],
-)
+pub fn kc_store_add_into(store: &mut [u8], descriptor: &[u8], data: &[u8], answer: &mut [u32; 3])
     ensures answer { answer.new ≡ answer_numbers (added store.old descriptor.now «data».now).answer }
     ensures wrote { store.new ≡ (added store.old descriptor.now «data».now).out }
 {
@@ -207,8 +181,7 @@ pub extern "C" fn kc_store_add_into(
 }
 
 // `start` and `length` get where the body starts in the book and how long it is.
-#[unsafe(no_mangle)]
-pub extern "C" fn kc_store_find_into(
+pub fn kc_store_find_into(
     store: &[u8],
     identifier: u32,
     answer: &mut [u32; 3],
@@ -225,8 +198,7 @@ pub extern "C" fn kc_store_find_into(
     *length = body.length as u64;
 }
 
-#[unsafe(no_mangle)]
-pub extern "C" fn kc_store_list_into(store: &[u8], identifiers: &mut [u32], answer: &mut [u32; 3])
+pub fn kc_store_list_into(store: &[u8], identifiers: &mut [u32], answer: &mut [u32; 3])
     ensures answer { answer.new ≡ answer_numbers (listed store.now identifiers.old).answer }
     ensures wrote { identifiers.new ≡ (listed store.now identifiers.old).out }
 {

@@ -1,5 +1,5 @@
-// Kerbcanopy's public entries, as C finds them: `include/kerbcanopy.h` declares each under the same name. Every entry takes any bytes,
-// asks nothing of its caller, and answers exactly what the definition that its contract cites says, refusals included.
+// Kerbcanopy's public entries. C finds each under the same name, in `kerbcanopy_c`, as `include/kerbcanopy.h` declares it. Every entry takes
+// any bytes, asks nothing of its caller, and answers exactly what the definition that its contract cites says, refusals included.
 #![tactic(auto)]
 
 pub mod book;
@@ -26,8 +26,7 @@ use timestamp::Difference;
 // Reads any bytes as a descriptor. Accepted: number 0, input 0, the place is the row count, and the table has a row for each descriptor
 // in order of first byte, zero rows after them. Refused: the number 1 to 12 that comes first in document 01's order, input 1, its place
 // (of 5 and 8 to 11 by document 02's CR 3), and a table of zero rows.
-#[unsafe(no_mangle)]
-pub extern "C" fn kc_check_descriptor(descriptor: &[u8]) -> Checked
+pub fn kc_check_descriptor(descriptor: &[u8]) -> Checked
     ensures { result ≡ with_table (descriptor_check descriptor.now) }
 {
     tabulation::check::check_descriptor(descriptor)
@@ -36,8 +35,7 @@ pub extern "C" fn kc_check_descriptor(descriptor: &[u8]) -> Checked
 // Whether two descriptors are equal: the same tree, low codes, counts, items, pairs and names; "Only the reserved byte is ignored."
 // Accepted: number 0, input 0, place 0, and yes or no. Refused: 1 to 12, its place, and no; input 1 where the first is no descriptor,
 // else input 2.
-#[unsafe(no_mangle)]
-pub extern "C" fn kc_compare(first: &[u8], second: &[u8]) -> Compared
+pub fn kc_compare(first: &[u8], second: &[u8]) -> Compared
     ensures { result ≡ comparison first.now second.now }
 {
     canonical::compare::compare(first, second)
@@ -47,8 +45,7 @@ pub extern "C" fn kc_compare(first: &[u8], second: &[u8]) -> Compared
 // bytes of `out` beyond it. Accepted: number 0, input 0, and the place is the length written, that of the descriptor. Refused: 1 to 12
 // with input 1 where it is no descriptor; else 50 with input 4 where `out` is shorter than it, the place being the length needed. A
 // refusal writes nothing.
-#[unsafe(no_mangle)]
-pub extern "C" fn kc_normal_form(descriptor: &[u8], out: &mut [u8]) -> Answer
+pub fn kc_normal_form(descriptor: &[u8], out: &mut [u8]) -> Answer
     ensures answer { result ≡ (normal_form descriptor.now out.old).answer }
     ensures wrote { out.new ≡ (normal_form descriptor.now out.old).out }
 {
@@ -58,8 +55,7 @@ pub extern "C" fn kc_normal_form(descriptor: &[u8], out: &mut [u8]) -> Answer
 // Reads any bytes as data of the descriptor's type. Accepted: number 0, input 0, and the place is the piece count. Refused: the
 // descriptor's 1 to 12 with input 1; else with input 3 the number 20 to 23 or 25 that comes first in document 01's order, and its place:
 // 0 for 20, the first byte left over for 25, for the others the start of the piece at fault.
-#[unsafe(no_mangle)]
-pub extern "C" fn kc_check_data(descriptor: &[u8], data: &[u8]) -> Answer
+pub fn kc_check_data(descriptor: &[u8], data: &[u8]) -> Answer
     ensures { result ≡ data_check descriptor.now «data».now }
 {
     walking::check::check_data(descriptor, data)
@@ -78,8 +74,7 @@ pub struct ValueRead {
 // empty path is the whole data". Accepted: number 0, input 0, place 0, and where the part starts and how long it is, length and size
 // words included. Refused: as by the data check, the whole data before the path; else 30 with input 4, the place being the number of the
 // step at fault, counted from 0; start and length are then 0.
-#[unsafe(no_mangle)]
-pub extern "C" fn kc_view(descriptor: &[u8], data: &[u8], path: &[u32]) -> Part
+pub fn kc_view(descriptor: &[u8], data: &[u8], path: &[u32]) -> Part
     ensures { result ≡ located descriptor.now «data».now path.now }
 {
     access::part::locate(descriptor, data, path)
@@ -88,8 +83,7 @@ pub extern "C" fn kc_view(descriptor: &[u8], data: &[u8], path: &[u32]) -> Part
 // Reads the number at a path, the steps being those of the view. Accepted: number 0, input 0, place 0, and the kind, 1 unsigned, 2 signed,
 // 3 single, 4 double, 5 flag, with the bits: a signed number's as the two's complement of 64 bits, a single's as the low 32. Refused: as
 // by the view; else 31 with input 4 and place 0 where the path leads to no single number; kind and bits are then 0.
-#[unsafe(no_mangle)]
-pub extern "C" fn kc_read_value(descriptor: &[u8], data: &[u8], path: &[u32]) -> ValueRead
+pub fn kc_read_value(descriptor: &[u8], data: &[u8], path: &[u32]) -> ValueRead
     ensures answer { result.answer ≡ (read_value descriptor.now «data».now path.now).answer }
     ensures kind { result.kind ≡ value_kind (read_value descriptor.now «data».now path.now).value }
     ensures bits { result.bits ≡ value_bits (read_value descriptor.now «data».now path.now).value }
@@ -105,8 +99,7 @@ pub extern "C" fn kc_read_value(descriptor: &[u8], data: &[u8], path: &[u32]) ->
 // Writes the little-endian form of the data to the front of `out`, "the same layout with the bytes of each number reversed in place", and
 // keeps the bytes of `out` beyond it. Accepted: number 0, input 0, and the place is the length written, that of the data. Refused: as by
 // the data check; else 50 with input 4 where `out` is shorter than the data, the place being the length needed. A refusal writes nothing.
-#[unsafe(no_mangle)]
-pub extern "C" fn kc_to_little_endian(descriptor: &[u8], data: &[u8], out: &mut [u8]) -> Answer
+pub fn kc_to_little_endian(descriptor: &[u8], data: &[u8], out: &mut [u8]) -> Answer
     ensures answer { result ≡ (to_little_endian descriptor.now «data».now out.old).answer }
     ensures wrote { out.new ≡ (to_little_endian descriptor.now «data».now out.old).out }
 {
@@ -115,8 +108,7 @@ pub extern "C" fn kc_to_little_endian(descriptor: &[u8], data: &[u8], out: &mut 
 
 // Writes the data whose little-endian form `data` is to the front of `out`. Its refusals are those of the data check with lengths, sizes
 // and enumerations read little-endian; the rest is as for the form.
-#[unsafe(no_mangle)]
-pub extern "C" fn kc_from_little_endian(descriptor: &[u8], data: &[u8], out: &mut [u8]) -> Answer
+pub fn kc_from_little_endian(descriptor: &[u8], data: &[u8], out: &mut [u8]) -> Answer
     ensures answer { result ≡ (from_little_endian descriptor.now «data».now out.old).answer }
     ensures wrote { out.new ≡ (from_little_endian descriptor.now «data».now out.old).out }
 {
@@ -131,13 +123,7 @@ pub extern "C" fn kc_from_little_endian(descriptor: &[u8], data: &[u8], out: &mu
 // cluster; for the first reader's member at fault, with input 2 and the member as the place, 42 where the rig has none of its name, 43 where
 // it has several, 44 where it has one of another type; 50 with input 4 where `out` is too small, the place being the length needed. A
 // refusal writes nothing.
-#[unsafe(no_mangle)]
-pub extern "C" fn kc_read_record(
-    writer: &[u8],
-    reader: &[u8],
-    data: &[u8],
-    out: &mut [u8],
-) -> Answer
+pub fn kc_read_record(writer: &[u8], reader: &[u8], data: &[u8], out: &mut [u8]) -> Answer
     ensures answer { result ≡ (resolved writer.now reader.now «data».now out.old).answer }
     ensures wrote { out.new ≡ (resolved writer.now reader.now «data».now out.old).out }
 {
@@ -147,8 +133,7 @@ pub extern "C" fn kc_read_record(
 // The first time stamp less the second, exactly; each is given as its four integers. Accepted: number 0, input 0, place 0, and seconds and
 // fraction, the fraction from 0 up to one second, in units of 2^-64. Refused: 32 with input 4 and place 0 where 64 signed bits don't hold the
 // seconds; seconds and fraction are then 0.
-#[unsafe(no_mangle)]
-pub extern "C" fn kc_stamp_difference(
+pub fn kc_stamp_difference(
     first_seconds_high: i32,
     first_seconds_low: i32,
     first_fraction_high: u32,

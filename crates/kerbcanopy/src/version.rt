@@ -1,4 +1,4 @@
-// The version, as C finds it.
+// The version.
 ghost use Rattle.std.specs.Prelude.{◌≡◌};
 ghost use Rattle.kerbcanopy.specs.Version.{version_number};
 
@@ -9,8 +9,7 @@ const MINOR: u32 = 2;
 const PATCH: u32 = 0;
 
 // Which version the library is: its first number times 65,536, its second times 256 and its third, added up. It takes nothing and refuses nothing.
-#[unsafe(no_mangle)]
-pub extern "C" fn kc_version() -> u32
+pub fn kc_version() -> u32
     ensures { result ≡ version_number }
 {
     MAJOR * 65536 + MINOR * 256 + PATCH

@@ -1,14 +1,16 @@
 // Data that 004 works out in bytes, and data at the edges of document 01's rules: a line for each, with number, input and place.
 use super::cases::{Cases, show_cases};
 use super::show::show_answer;
+use std::io;
 
 // What is said of the data s under the descriptor d.
-pub fn show_data(d: &[u8], s: &[u8]) {
-    show_answer(kerbcanopy::kc_check_data(d, s));
+pub fn show_data(rt: &impl Print, d: &[u8], s: &[u8]) -> io::Result<()> {
+    show_answer(rt, kerbcanopy::kc_check_data(d, s))
 }
 
-pub fn worked() {
+pub fn worked(rt: &impl Print) -> io::Result<()> {
     show_cases(
+        rt,
         Cases::Data,
         b"-19 (004)|\x00\x04\x00\x03|\xFF\xFF\xFF\xED|\
         1/4 (004)|\x00\x04\x00\x0A|\x3F\xD0\x00\x00\x00\x00\x00\x00|\
@@ -20,11 +22,12 @@ pub fn worked() {
         cluster of ABC and 4 (004)|\x00\x12\x00\x50\x00\x02\x00\x08\x00\x30\xFF\xFF\xFF\xFF\x00\x04\x00\x02|\x00\x00\x00\x03ABC\x00\x04|\
         cluster of 7, a cluster of 8, and 9 (004)|\
             \x00\x18\x00\x50\x00\x03\x00\x04\x00\x02\x00\x0A\x00\x50\x00\x01\x00\x04\x00\x02\x00\x04\x00\x02|\x00\x07\x00\x08\x00\x09|",
-    );
+    )
 }
 
-pub fn sizes() {
+pub fn sizes(rt: &impl Print) -> io::Result<()> {
     show_cases(
+        rt,
         Cases::Data,
         b"sizes 7FFFFFFF then 0 (01)|\x00\x12\x00\x40\x00\x02\xFF\xFF\xFF\xFF\xFF\xFF\xFF\xFF\x00\x04\x00\x21|\x7F\xFF\xFF\xFF\x00\x00\x00\x00|\
         a size of 2^31 beside 0|\x00\x12\x00\x40\x00\x02\xFF\xFF\xFF\xFF\xFF\xFF\xFF\xFF\x00\x04\x00\x21|\x00\x00\x00\x00\x80\x00\x00\x00|\
@@ -36,11 +39,12 @@ pub fn sizes() {
         three sizes of 7FFFFFFF and 0|\
             \x00\x1A\x00\x40\x00\x04\xFF\xFF\xFF\xFF\xFF\xFF\xFF\xFF\xFF\xFF\xFF\xFF\xFF\xFF\xFF\xFF\x00\x04\x00\x01|\
             \x7F\xFF\xFF\xFF\x7F\xFF\xFF\xFF\x7F\xFF\xFF\xFF\x00\x00\x00\x00|",
-    );
+    )
 }
 
-pub fn edges() {
+pub fn edges(rt: &impl Print) -> io::Result<()> {
     show_cases(
+        rt,
         Cases::Data,
         b"an enumeration too high, first of 2^31 - 1|\
             \x00\x14\x00\x40\x00\x01\xFF\xFF\xFF\xFF\x00\x0A\x00\x15\x00\x02\x01a\x01b|\x7F\xFF\xFF\xFF\x02|\
@@ -54,5 +58,5 @@ pub fn edges() {
             \x00\x18\x00\x40\x00\x01\xFF\xFF\xFF\xFF\x00\x0E\x00\x50\x00\x02\x00\x04\x00\x02\x00\x04\x00\x07|\
             \x00\x00\x00\x02\x00\x01\x00\x00\x00\x02\x00\x03\x00\x00|\
         a code that is not carried|\x00\x04\x00\x00|\x01|",
-    );
+    )
 }

@@ -14,20 +14,23 @@ mod sources;
 mod stamps;
 
 use cases::{Cases, show_cases};
+use std::io;
 
 // Document 01, "Checked by hand": the rows not marked P. The first stands in 002 and 004 too.
-fn hand_checked() {
+fn hand_checked(rt: &impl Print) -> io::Result<()> {
     show_cases(
+        rt,
         Cases::Descriptors,
         b"m/s, double (01, 002, 004)|\x00\x0E\x00\x1A\x00\x02\x00\x02\xFF\xFF\x00\x03\x00\x01|\
         half a name (01)|\x00\x06\x00\x03\x02\x61|\
         empty name (01)|\x00\x06\x00\x03\x00\x00|",
-    );
+    )
 }
 
 // The places of document 02's CR 3, of a descriptor inside another and, but for the first, before a third.
-fn pointed_at() {
+fn pointed_at(rt: &impl Print) -> io::Result<()> {
     show_cases(
+        rt,
         Cases::Descriptors,
         b"array in array (P7)|\x00\x18\x00\x40\x00\x01\xFF\xFF\xFF\xFF\x00\x0E\x00\x40\x00\x01\xFF\xFF\xFF\xFF\x00\x04\x00\x0A|\
         member of code 00|\x00\x0E\x00\x50\x00\x02\x00\x04\x00\x00\x00\x04\x00\x03|\
@@ -37,24 +40,25 @@ fn pointed_at() {
         base index 9|\x00\x14\x00\x50\x00\x02\x00\x0A\x00\x19\x00\x01\x00\x09\x00\x01\x00\x04\x00\x03|\
         fill byte 61|\x00\x12\x00\x50\x00\x02\x00\x08\x00\x15\x00\x01\x00\x61\x00\x04\x00\x03|\
         member with half a name|\x00\x10\x00\x50\x00\x02\x00\x06\x00\x03\x02\x61\x00\x04\x00\x03|",
-    );
+    )
 }
 
-fn main() {
-    hand_checked();
-    pointed_at();
-    numbers::numbers();
-    sources::nested();
-    sources::listed();
-    data::worked();
-    data::sizes();
-    data::edges();
-    records::old_faults();
-    records::refusals();
-    records::lamp();
-    stamps::worked();
-    stamps::differences();
-    books::three();
-    books::narrow();
-    books::judged();
+fn main(rt: HostRuntime) -> io::Result<()> {
+    let rt = &rt;
+    hand_checked(rt)?;
+    pointed_at(rt)?;
+    numbers::numbers(rt)?;
+    sources::nested(rt)?;
+    sources::listed(rt)?;
+    data::worked(rt)?;
+    data::sizes(rt)?;
+    data::edges(rt)?;
+    records::old_faults(rt)?;
+    records::refusals(rt)?;
+    records::lamp(rt)?;
+    stamps::worked(rt)?;
+    stamps::differences(rt)?;
+    books::three(rt)?;
+    books::narrow(rt)?;
+    books::judged(rt)
 }

@@ -1,8 +1,10 @@
 // The types that the tables of 002 and 004 give whole, `xx` being the reserved byte. 004 has them without the two of 64 bits.
 use super::cases::{Cases, show_cases};
+use std::io;
 
-pub fn numbers() {
+pub fn numbers(rt: &impl Print) -> io::Result<()> {
     show_cases(
+        rt,
         Cases::Descriptors,
         b"8-bit integer|\x00\x04\x00\x01|\
         16-bit integer|\x00\x04\x00\x02|\
@@ -21,5 +23,5 @@ pub fn numbers() {
         Boolean|\x00\x04\x00\x21|\
         Boolean, xx being FF|\x00\x04\xFF\x21|\
         string|\x00\x08\x00\x30\xFF\xFF\xFF\xFF|",
-    );
+    )
 }

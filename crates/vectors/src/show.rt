@@ -1,11 +1,12 @@
-// What is printed of a descriptor, made of the three public entries' answers.
+// What is printed of a descriptor, made of the three public entries' answers. Everything is written to standard output as it comes.
 use descriptor::answer::{Answer, Checked, Row};
+use std::io;
 
 // Room for the normal form of the longest descriptor here.
 const ROOM: usize = 64;
 
-pub fn say(text: &[u8]) {
-    io::write_all(1, text);
+pub fn say(rt: &impl Print, text: &[u8]) -> io::Result<()> {
+    rt.write_all(text)
 }
 
 fn wide16(x: u16) -> u64 {
@@ -16,72 +17,69 @@ pub fn wide32(x: u32) -> u64 {
     x as u64
 }
 
-pub fn say_number(x: u64) {
-    say(b" ");
-    io::print_decimal(1, x);
+pub fn say_number(rt: &impl Print, x: u64) -> io::Result<()> {
+    print!(rt; " {x}")
 }
 
-pub fn show_answer(a: Answer) {
-    say_number(wide32(a.number));
-    say_number(wide32(a.input));
-    say_number(wide32(a.place));
+pub fn show_answer(rt: &impl Print, a: Answer) -> io::Result<()> {
+    say_number(rt, wide32(a.number))?;
+    say_number(rt, wide32(a.input))?;
+    say_number(rt, wide32(a.place))
 }
 
-fn show_row(r: Row) {
-    say(b" (");
-    io::print_hex(1, wide16(r.code), 2);
-    say_number(wide16(r.start));
-    say_number(wide16(r.size));
-    say_number(wide16(r.depth));
-    say_number(wide16(r.count));
-    say_number(wide16(r.name_place));
-    say_number(wide16(r.name_length));
-    say(b")");
+fn show_row(rt: &impl Print, r: Row) -> io::Result<()> {
+    let code = r.code;
+    print!(rt; " ({code:02x}")?;
+    say_number(rt, wide16(r.start))?;
+    say_number(rt, wide16(r.size))?;
+    say_number(rt, wide16(r.depth))?;
+    say_number(rt, wide16(r.count))?;
+    say_number(rt, wide16(r.name_place))?;
+    say_number(rt, wide16(r.name_length))?;
+    say(rt, b")")
 }
 
 // The rows that are used: a descriptor's size is never 0.
-fn show_rows(c: Checked) {
-    let mut i = 0;
-    while i < 256 {
-        let r = c.rows[i];
+fn show_rows(rt: &impl Print, c: Checked) -> io::Result<()> {
+    for r in &c.rows {
         if r.size != 0 {
-            show_row(r);
+            show_row(rt, *r)?;
         }
-        i += 1;
     }
+    Ok(())
 }
 
 // Whether the normal form has d's bytes, and whether the two compare equal.
-fn show_normal(d: &[u8], normal: &[u8]) {
-    if check::same(d, normal) {
-        say(b"; normal form: same bytes");
+fn show_normal(rt: &impl Print, d: &[u8], normal: &[u8]) -> io::Result<()> {
+    if d == normal {
+        say(rt, b"; normal form: same bytes")?;
     } else {
-        say(b"; normal form: other bytes");
+        say(rt, b"; normal form: other bytes")?;
     }
     let c = kerbcanopy::kc_compare(d, normal);
     if c.equal {
-        say(b", equal");
+        say(rt, b", equal")
     } else {
-        say(b", not equal");
+        say(rt, b", not equal")
     }
 }
 
 // The same of a normal form that stands at the front of out; its length is the place.
-fn show_front(d: &[u8], out: &[u8], place: u32) {
-    let n = io::count(place as isize, out);
-    show_normal(d, &out[..n]);
+fn show_front(rt: &impl Print, d: &[u8], out: &[u8], place: u32) -> io::Result<()> {
+    let n = (place as usize).min(out.len());
+    show_normal(rt, d, &out[..n])
 }
 
 // What is said of the descriptor d.
-pub fn show(d: &[u8]) {
+pub fn show(rt: &impl Print, d: &[u8]) -> io::Result<()> {
     let c = kerbcanopy::kc_check_descriptor(d);
-    show_answer(c.answer);
-    show_rows(c);
+    show_answer(rt, c.answer)?;
+    show_rows(rt, c)?;
     let mut out = [0u8; ROOM];
     let a = kerbcanopy::kc_normal_form(d, &mut out);
     if a.number == 0 {
-        show_front(d, &out, a.place);
+        show_front(rt, d, &out, a.place)
     } else {
-        say(b"; normal form: none");
+        say(rt, b"; normal form: none")
     }
 }

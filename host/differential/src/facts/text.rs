@@ -44,14 +44,14 @@ fn question(asked: &Asked) -> String {
     let [first, second, data] = [&asked.first, &asked.second, &asked.data].map(|bytes| hex(bytes));
     let (path, room) = (path(&asked.path), room(asked.room));
     match asked.entry {
-        Entry::CheckDescriptor => format!("descriptorCheck {first}"),
+        Entry::CheckDescriptor => format!("descriptor_check {first}"),
         Entry::Compare => format!("comparison {first} {second}"),
-        Entry::NormalForm => format!("normalForm {first} {room}"),
-        Entry::CheckData => format!("dataCheck {first} {data}"),
+        Entry::NormalForm => format!("normal_form {first} {room}"),
+        Entry::CheckData => format!("data_check {first} {data}"),
         Entry::View => format!("located {first} {data} {path}"),
-        Entry::ReadValue => format!("told (readValue {first} {data} {path})"),
-        Entry::ToLittleEndian => format!("toLittleEndian {first} {data} {room}"),
-        Entry::FromLittleEndian => format!("fromLittleEndian {first} {data} {room}"),
+        Entry::ReadValue => format!("told (read_value {first} {data} {path})"),
+        Entry::ToLittleEndian => format!("to_little_endian {first} {data} {room}"),
+        Entry::FromLittleEndian => format!("from_little_endian {first} {data} {room}"),
         _ => format!("resolved {first} {second} {data} {room}"),
     }
 }
@@ -64,13 +64,13 @@ fn answer(case: &Case) -> String {
         (Given::Nothing, 0) => format!("accepted {place}"),
         (Given::Nothing, _) => format!("refusal {three}"),
         (Given::Rows(rows), 0) => {
-            format!("withRows {place} ({})", listed(rows.iter().map(table_row)))
+            format!("with_rows {place} ({})", listed(rows.iter().map(table_row)))
         }
-        (Given::Rows(_), _) => format!("noRows {three}"),
-        (Given::Equal(equal), 0) => format!("bothCompared {equal}"),
-        (Given::Equal(_), _) => format!("notCompared {three}"),
-        (Given::Part { start, length }, 0) => format!("partAt {start} {length}"),
-        (Given::Part { .. }, _) => format!("noPart {three}"),
+        (Given::Rows(_), _) => format!("no_rows {three}"),
+        (Given::Equal(equal), 0) => format!("both_compared {equal}"),
+        (Given::Equal(_), _) => format!("not_compared {three}"),
+        (Given::Part { start, length }, 0) => format!("part_at {start} {length}"),
+        (Given::Part { .. }, _) => format!("no_part {three}"),
         (Given::Value { kind, bits }, 0) => format!("(accepted {place}, {kind}, 0x{bits:X})"),
         (Given::Value { kind, bits }, _) => format!("(refusal {three}, {kind}, {bits})"),
         (Given::Output(out), 0) => format!("wrote {place} {}", hex(out)),

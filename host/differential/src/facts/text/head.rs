@@ -27,76 +27,76 @@ pub fn of(count: usize) -> String {
 }
 
 const USES: &str = "\
-use mathlib.Core.Path.{_≡_, refl}
-use mathlib.Core.Bool.{true, false}
-use mathlib.Core.List.{List, [], _∷_}
-use Prim.Native.Nat.{ℕ}
-use lib.Ieee.{nanBits, ofBits, toBits}
-use Rattle·number.specs.Endian.{be, beBytes, le}
-use Rattle·number.specs.Signed.{signed}
-use Rattle·number.specs.Float.{singleOf, doubleOf}
-use Rattle·descriptor.specs.Codes.{kindOf}
-use Rattle·descriptor.specs.Tree.{childCount, countOf, itemsSize, fieldsSize, nameSize, treeSize, forestSize, rowCount, forestRows}
-use Rattle·descriptor.specs.Stamp.{isUnnamed, areUnnamed, isStampCluster, isStampInside}
-use Rattle·descriptor.specs.Encoding.{packed, pairBytes, fieldBytes, nameBytes, encodeWith, forestWith}
-use Rattle·descriptor.specs.Check.{headerAt, countAt, runAt, itemAt, itemsAt, pairsAt, fieldsRead, judged, contentsAt, fillAt, filledAt, fieldsAt, membersAt, nameAt, nodeAt, treeAt, checked}
-use Rattle·descriptor.specs.Table.{namePlace, nameLength, rowOf, rowsOf, forestRowsOf}
-use Rattle·descriptor.specs.Answers.{refusal, accepted, noRows, descriptorCheck}
-use Rattle·descriptor.specs.Output.{unwritten, writtenTo}
-use Rattle·descriptor.specs.Width.{widthOf}
-use Rattle·descriptor.specs.declared.answer.Answer.{Answer}
-use Rattle·canonical.specs.Equality.{sameList, sameName, itemsOf, pairsOf, sameTree, sameForest, notCompared, bothCompared, comparison}
-use Rattle·canonical.specs.Normal.{normalForm}
-use Rattle·flattened.specs.Order.{numberAt}
-use Rattle·flattened.specs.Walk.{scalarAt, textAt, sizesAt, sizesFit, product, arrayAt, repeat, walkFields, walk, walkAll, walked}
-use Rattle·flattened.specs.Answers.{dataCheck}
-use Rattle·byteorder.specs.Reversal.{reverseEach, numberCount, numberWidth, reverseToken, reversed, turned, toLittleEndian, fromLittleEndian}
-use Rattle·access.specs.Path.{memberAt, stepAt, spotAt, noPart, partOf, located}
-use Rattle·access.specs.declared.part.Part.{Part}
-use Rattle·reading.specs.Values.{ofSingle, ofDouble, valueOf, isValue, numberOf, readValue, valueKind, complement, valueBits}
-use Rattle·reading.specs.declared.value.Reading.{Reading}
-use Rattle·resolution.specs.Record.{membersFrom, writerFields, isAmong, readerNames, readerFields, matches, namesakes, searched, searchNumber, memberFound, memberBytes, joinedBytes, recordBytes, resolved}
-use Rattle·demands·specs.specs.Cases.{row, withRows, room}
-use Rattle·demands·specs.specs.DataCases.{wrote}
+use Rattle.std.specs.Prelude.{◌≡◌, refl, true, false, List, [], ◌∷◌, ℕ}
+use Rattle.std.specs.Float.Ieee.{nan_bits, of_bits, to_bits}
+use Rattle.number.specs.Endian.{be, be_bytes, le}
+use Rattle.number.specs.Signed.{signed}
+use Rattle.number.specs.Float.{single_of, double_of}
+use Rattle.descriptor.specs.Codes.{kind_of}
+use Rattle.descriptor.specs.Tree.{child_count, count_of, items_size, fields_size, name_size, tree_size, forest_size, row_count, forest_rows}
+use Rattle.descriptor.specs.Stamp.{is_unnamed, are_unnamed, is_stamp_cluster, is_stamp_inside}
+use Rattle.descriptor.specs.Encoding.{packed, pair_bytes, field_bytes, name_bytes, encode_with, forest_with}
+use Rattle.descriptor.specs.Check.{header_at, count_at, run_at, item_at, items_at, pairs_at, fields_read, judged, contents_at, fill_at, filled_at, fields_at, members_at, name_at, node_at, tree_at, checked}
+use Rattle.descriptor.specs.Table.{place_of_name, length_of_name, row_of, rows_of, forest_rows_of}
+use Rattle.descriptor.specs.Answers.{refusal, accepted, no_rows, descriptor_check}
+use Rattle.descriptor.specs.Output.{unwritten, written_to}
+use Rattle.descriptor.specs.Width.{width_of}
+use Rattle.descriptor.specs.declared.answer.Answer.{Answer}
+use Rattle.canonical.specs.Equality.{same_list, same_name, items_of, pairs_of, same_tree, same_forest, not_compared, both_compared, comparison}
+use Rattle.canonical.specs.Normal.{normal_form}
+use Rattle.flattened.specs.Order.{number_at}
+use Rattle.flattened.specs.Walk.{scalar_at, text_at, sizes_at, sizes_fit, product, array_at, repeat, walk_fields, walk, walk_all, walked}
+use Rattle.flattened.specs.Answers.{data_check}
+use Rattle.byte_order.specs.Reversal.{reverse_each, number_count, number_width, reverse_token, reversed, turned, to_little_endian, from_little_endian}
+use Rattle.access.specs.Path.{member_at, step_at, spot_at, no_part, part_of, located}
+use Rattle.access.specs.declared.part.Part.{Part}
+use Rattle.reading.specs.Values.{of_single, of_double, value_of, is_value, number_of, read_value, value_kind, complement, value_bits}
+use Rattle.reading.specs.declared.value.Reading.{Reading}
+use Rattle.resolution.specs.Record.{members_from, writer_fields, is_among, reader_names, reader_fields, matches, namesakes, searched, search_number, member_found, member_bytes, joined_bytes, record_bytes, resolved}
+use Rattle.demands.specs.Cases.{row, with_rows, room}
+use Rattle.demands.specs.DataCases.{wrote}
 ";
 
 const WORDS: &str = "
 -- n bytes, written as one number
 abbrev hex : ℕ → ℕ → List ℕ
-hex n bytes = beBytes n bytes
+hex n bytes = be_bytes n bytes
 
 -- an accepted part
-abbrev partAt : ℕ → ℕ → Part
-partAt start length = record { answer = accepted 0; start = start; length = length }
+abbrev part_at : ℕ → ℕ → Part
+part_at start length = record { answer = accepted 0; start = start; length = length }
 
 -- a value as C gets it: the answer, the value's kind and its bits
 unfoldable pub told : Reading → Answer × ℕ × ℕ
-told x = (x .answer, valueKind (x .value), valueBits (x .value))
+told x = (x.answer, value_kind x.value, value_bits x.value)
 ";
 
 /// What a descriptor's check computes through.
-const CHECK: &str = "be beBytes kindOf childCount countOf itemsSize fieldsSize nameSize treeSize forestSize rowCount forestRows isUnnamed areUnnamed isStampCluster isStampInside headerAt countAt runAt itemAt itemsAt pairsAt fieldsRead judged contentsAt fillAt filledAt fieldsAt membersAt nameAt nodeAt treeAt checked";
+const CHECK: &str = "be be_bytes kind_of child_count count_of items_size fields_size name_size tree_size forest_size row_count forest_rows is_unnamed are_unnamed is_stamp_cluster is_stamp_inside header_at count_at run_at item_at items_at pairs_at fields_read judged contents_at fill_at filled_at fields_at members_at name_at node_at tree_at checked";
 /// What a walk of data does, beside that.
-const WALK: &str = "le widthOf numberAt scalarAt textAt sizesAt sizesFit product arrayAt repeat walkFields walk walkAll walked";
-const EQUALITY: &str = "sameList sameName itemsOf pairsOf sameTree sameForest";
-const TURNING: &str = "writtenTo reverseEach numberCount numberWidth reverseToken reversed turned";
+const WALK: &str = "le width_of number_at scalar_at text_at sizes_at sizes_fit product array_at repeat walk_fields walk walk_all walked";
+const EQUALITY: &str = "same_list same_name items_of pairs_of same_tree same_forest";
+const TURNING: &str =
+    "written_to reverse_each number_count number_width reverse_token reversed turned";
 
 pub fn fact(entry: Entry) -> Fact {
     let [name, about] = words(entry);
     let own = match entry {
-        Entry::CheckDescriptor => "namePlace nameLength rowOf rowsOf forestRowsOf descriptorCheck",
+        Entry::CheckDescriptor => {
+            "place_of_name length_of_name row_of rows_of forest_rows_of descriptor_check"
+        }
         Entry::Compare => "comparison",
         Entry::NormalForm => {
-            "writtenTo packed pairBytes fieldBytes nameBytes encodeWith forestWith normalForm"
+            "written_to packed pair_bytes field_bytes name_bytes encode_with forest_with normal_form"
         }
-        Entry::CheckData => "dataCheck",
-        Entry::View => "memberAt stepAt spotAt partOf located",
+        Entry::CheckData => "data_check",
+        Entry::View => "member_at step_at spot_at part_of located",
         Entry::ReadValue => {
-            "memberAt stepAt spotAt signed singleOf doubleOf nanBits ofBits toBits ofSingle ofDouble valueOf isValue numberOf readValue valueKind complement valueBits told"
+            "member_at step_at spot_at signed single_of double_of nan_bits of_bits to_bits of_single of_double value_of is_value number_of read_value value_kind complement value_bits told"
         }
         Entry::ToLittleEndian | Entry::FromLittleEndian => TURNING,
         _ => {
-            "rowOf namePlace nameLength writtenTo membersFrom writerFields isAmong readerNames readerFields matches namesakes searched searchNumber memberFound memberBytes joinedBytes recordBytes resolved"
+            "row_of place_of_name length_of_name written_to members_from writer_fields is_among reader_names reader_fields matches namesakes searched search_number member_found member_bytes joined_bytes record_bytes resolved"
         }
     };
     let walk = entry.reads_data().then_some(WALK);
