@@ -1,7 +1,7 @@
 // The blank book of document 02's CR 4: a line for each question, with number, input and place; of a find the start and the length of the
 // body then, of a list the numbers lent, and of a book as a whole whether its bytes are those they should be.
 use super::cases::{Cases, show_cases};
-use super::records::show_output;
+use super::shaped_records::show_output;
 use super::show::{say, say_number, show_answer, wide32};
 use std::io;
 

@@ -4,7 +4,7 @@ ghost use Rattle.std.specs.Prelude.{◌≤◌, length};
 
 use super::books::show_book;
 use super::data::show_data;
-use super::records::{show_identifier, show_rig};
+use super::shaped_records::{show_identifier, show_rig};
 use super::show::{say, show};
 use std::io;
 
