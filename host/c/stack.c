@@ -143,7 +143,8 @@ static void set_record(const question *q, bool with_blank) {
     memcpy(record.type, blank, before);
     memcpy(record.type + before, first.bytes, q->first_len);
     memcpy(record.value, nine, record.value_len - q->data_len);
-    memcpy(record.value + record.value_len - q->data_len, data.bytes, q->data_len);
+    /* Any of the three that the library calls is bound before it is measured: memset, memcpy and this. */
+    memmove(record.value + record.value_len - q->data_len, data.bytes, q->data_len);
     if (with_blank) {
         record.type[0] = (uint8_t)(size >> 8);
         record.type[1] = (uint8_t)size;
@@ -625,10 +626,12 @@ static bool compare_version(FILE *document, uint8_t *stack) {
     return holds;
 }
 
-/* The smallest stack that a thread may have; 4 KiB more for the one entry that it is too small for. */
+/* The smallest stack that a thread may have; 4 KiB and 8 KiB more for the two entries that it is too small for. */
 static size_t small(int entry) {
     size_t smallest = (size_t)sysconf(_SC_THREAD_STACK_MIN);
-    return entry == INTO + CHECK_DESCRIPTOR ? smallest + 4096 : smallest;
+    if (entry == CHECK_DESCRIPTOR)
+        return smallest + 4096;
+    return entry == INTO + CHECK_DESCRIPTOR ? smallest + 8192 : smallest;
 }
 
 /* Asks each entry its deepest nesting's questions on a small stack. */
