@@ -143,8 +143,7 @@ static void set_record(const question *q, bool with_blank) {
     memcpy(record.type, blank, before);
     memcpy(record.type + before, first.bytes, q->first_len);
     memcpy(record.value, nine, record.value_len - q->data_len);
-    /* Any of the three that the library calls is bound before it is measured: memset, memcpy and this. */
-    memmove(record.value + record.value_len - q->data_len, data.bytes, q->data_len);
+    memcpy(record.value + record.value_len - q->data_len, data.bytes, q->data_len);
     if (with_blank) {
         record.type[0] = (uint8_t)(size >> 8);
         record.type[1] = (uint8_t)size;
@@ -626,12 +625,10 @@ static bool compare_version(FILE *document, uint8_t *stack) {
     return holds;
 }
 
-/* The smallest stack that a thread may have; 4 KiB and 8 KiB more for the two entries that it is too small for. */
+/* The smallest stack that a thread may have; 8 KiB more for the two entries that it is too small for, which hand out a table. */
 static size_t small(int entry) {
     size_t smallest = (size_t)sysconf(_SC_THREAD_STACK_MIN);
-    if (entry == CHECK_DESCRIPTOR)
-        return smallest + 4096;
-    return entry == INTO + CHECK_DESCRIPTOR ? smallest + 8192 : smallest;
+    return entry % INTO == CHECK_DESCRIPTOR ? smallest + 8192 : smallest;
 }
 
 /* Asks each entry its deepest nesting's questions on a small stack. */
@@ -670,6 +667,8 @@ int main(int argc, char **argv) {
     FILE *document = argc == 2 ? fopen(argv[1], "r") : NULL;
     must(document != NULL, "stack: the document that states the bounds");
     uint8_t *stack = new_stack(STACK);
+    /* Of what the library calls of C, memset and memcpy are bound by now. This binds the third, so that no measured call does. */
+    memmove(stack, stack + 1, STACK - 1);
     measure_all(stack);
     bool good = compare(document);
     good = compare_version(document, stack) && good;
