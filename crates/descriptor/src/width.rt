@@ -12,13 +12,19 @@ const WIDTHS: [u8; 34] = [
     // 09 to 0B: single, double, extended
     4, 8, 16,
     // 0C to 0E: their complex kinds
-    8, 16, 32, 0, 0, 0, 0, 0, 0,
+    8, 16, 32,
+    // 0F to 14: none
+    0, 0, 0, 0, 0, 0,
     // 15 to 17: enumerations
-    1, 2, 4, 0,
+    1, 2, 4,
+    // 18: none
+    0,
     // 19 to 1B: physical quantities
     4, 8, 16,
     // 1C to 1E: their complex kinds
-    8, 16, 32, 0, 0, 1, // 21: Boolean
+    8, 16, 32,
+    // 1F and 20: none
+    0, 0, 1, // 21: Boolean
 ];
 
 // How many bytes a value of the code `code` takes, 0 where there is no fixed width.
