@@ -7,6 +7,7 @@ use native.Mathlib.Nat.{sub-zero, zero-sub, suc-sub-suc}
 use native.Mathlib.Omega.{arith}
 use lib.ListN.{length, replicate, drop, length-replicate}
 use lib.Seq.{sets, sets-eq}
+use Rattle.std.specs.Prelude.{Err}
 use Rattle.descriptor.specs.Limits.{descriptor_limit, row_limit, depth_limit}
 use Rattle.descriptor.specs.Codes.{kind_of, is_array}
 use Rattle.descriptor.specs.Tree.{Tree, Forest, nil, cons, child_count, row_count, forest_rows, forest_height}
@@ -18,7 +19,7 @@ use Rattle.descriptor.specs.Answers.{refusal, accepted, descriptor_check, with_t
 use Rattle.descriptor.specs.inner.Standing.{standing, standing_row, is_read, forest_of}
 use Rattle.descriptor.specs.inner.Filling.{zero_rows, ahead, TablePre, filled}
 use Rattle.descriptor.specs.inner.Steps.{counted}
-use Rattle.descriptor.specs.declared.step.Step.{Step}
+use Rattle.descriptor.specs.declared.refusal.Refusal.{Refusal}
 use Rattle.descriptor.specs.declared.answer.Row.{Row}
 use Rattle.descriptor.specs.declared.answer.Answer.{Answer}
 use Rattle.descriptor.specs.inner.Filling.{Table}
@@ -29,15 +30,14 @@ use Rattle.descriptor.proofs.Standing.{accepted-standing, standing-low}
 use Rattle.descriptor.proofs.Steps.{lost}
 use Rattle.descriptor.proofs.Places.{refused-place}
 
--- what the check of s came to
-module _ (s : List ℕ) (r : Step) (e : r ≡ counted row_count (checked s)) where
-  -- a refusal
-  pub judged-refused : r.ok ≡ false → checked s ≡ refused r.number r.place
-  judged-refused no-tree = (lost row_count (λ _. 0) (checked s) r e no-tree).eq
+-- the check of s refused it
+module _ (s : List ℕ) (r : Refusal) (e : Err r ≡ counted row_count (checked s)) where
+  pub judged-refused : checked s ≡ refused r.number r.place
+  judged-refused = lost row_count (λ _. 0) (checked s) r e
 
-  -- whose place lies in a descriptor
-  pub judged-place : r.ok ≡ false → r.place ≤ descriptor_limit
-  judged-place no-tree = refused-place s r.number r.place (judged-refused no-tree)
+  -- at a place that lies in a descriptor
+  pub judged-place : r.place ≤ descriptor_limit
+  judged-place = refused-place s r.number r.place judged-refused
 
 -- descriptors that are read keep within the rows
 members-rows : (f : ℕ → ℕ → Outcome Tree) → ((p n : ℕ) → Holds (λ q t. n + row_count t ≤ row_limit) (f p n)) → (k p n : ℕ) → n ≤ row_limit

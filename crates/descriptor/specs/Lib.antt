@@ -4,6 +4,7 @@ pub mod Header
 pub mod Tree
 pub mod Encoding
 pub mod Outcome
+pub mod Faults
 pub mod Check
 pub mod Stamp
 pub mod Table

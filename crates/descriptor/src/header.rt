@@ -2,22 +2,21 @@
 ghost use Rattle.std.specs.Prelude.{◌≡◌, ◌+◌, ◌≤◌, ◌<◌, length};
 ghost use Rattle.number.specs.inner.Post.{Bounded};
 ghost use Rattle.descriptor.specs.Header.{header_size, reserved_at, code_at, body_at, size_in, code_in};
-ghost use Rattle.descriptor.specs.inner.Steps.{refused_head};
+ghost use Rattle.descriptor.specs.inner.Steps.{refusal_at};
 ghost use Rattle.descriptor.specs.inner.Promises.{Within, HeadMet, addressable};
 
 use super::codes::{is_array, is_carried};
 use super::limits::{HIGH_BIT, ROW_LIMIT};
+use super::refusal::{Fault, Refusal};
+use super::step::not_carried;
 use number::endian::be16;
 
 // The bytes of the two words.
 const HEADER_SIZE: usize = 4;
 
-// Where not `ok`, the refusal's number and place. Else the descriptor's size, where its body starts, and its low code byte.
-#[derive(Clone, Copy)]
+// A header that was read: the descriptor's size, where its body starts, and its low code byte.
+#[derive(Clone, Copy, Debug, PartialEq, Eq)]
 pub struct Head {
-    pub ok: bool,
-    pub number: u32,
-    pub place: usize,
     pub size: usize,
     pub body: usize,
     pub code: u8,
@@ -63,77 +62,53 @@ pub fn code_at(d: &[u8], p: usize) -> u8
     d[p + 3]
 }
 
-fn refuse_head(number: u32, place: usize) -> Head
-    ensures { result ≡ refused_head number place }
-{
-    Head {
-        ok: false,
-        number,
-        place,
-        size: 0,
-        body: 0,
-        code: 0,
-    }
-}
-
-// 5: the code of the descriptor at p is not carried.
-fn bad_code(p: usize) -> Head
-    requires { p < addressable }
-    ensures { result ≡ refused_head 5 (code_at p) }
-{
-    refuse_head(5, code_place(p))
-}
-
 // 10: the descriptor at p is an array in an array.
-fn nested_array(p: usize) -> Head
+fn nested_array(p: usize) -> Refusal
     requires { p < addressable }
-    ensures { result ≡ refused_head 10 (code_at p) }
+    ensures { result ≡ refusal_at 10 (code_at p) }
 {
-    refuse_head(10, code_place(p))
+    Fault::Contents.at(code_place(p))
 }
 
 // The header of the descriptor at p, whose parent ends at `end`, with `levels` left of the depth and n rows before it.
-pub fn header(d: &[u8], levels: usize, in_array: bool, end: usize, p: usize, n: usize) -> Head
+pub fn header(d: &[u8], levels: usize, in_array: bool, end: usize, p: usize, n: usize) -> Result<Head, Refusal>
     requires { Within d.now p end }
     ensures { HeadMet d.now levels in_array end p n result }
 {
     if end - p < HEADER_SIZE {
-        return refuse_head(2, p);
+        return Err(Fault::Header.at(p));
     }
     let size = size_at(d, p);
     if HIGH_BIT <= size {
-        return refuse_head(3, p);
+        return Err(Fault::SizeBit.at(p));
     }
     if size % 2 != 0 {
-        return refuse_head(4, p);
+        return Err(Fault::Size.at(p));
     }
     if size < HEADER_SIZE {
-        return refuse_head(4, p);
+        return Err(Fault::Size.at(p));
     }
     if end - p < size {
-        return refuse_head(4, p);
+        return Err(Fault::Size.at(p));
     }
     let code = code_at(d, p);
     if !is_carried(code) {
-        return bad_code(p);
+        return Err(not_carried(p));
     }
     if levels == 0 {
-        return refuse_head(6, p);
+        return Err(Fault::Depth.at(p));
     }
     if ROW_LIMIT <= n {
-        return refuse_head(7, p);
+        return Err(Fault::Rows.at(p));
     }
     if in_array {
         if is_array(code) {
-            return nested_array(p);
+            return Err(nested_array(p));
         }
     }
-    Head {
-        ok: true,
-        number: 0,
-        place: 0,
+    Ok(Head {
         size,
         body: p + HEADER_SIZE,
         code,
-    }
+    })
 }

@@ -6,5 +6,6 @@ pub mod codes;
 pub mod header;
 pub mod inside;
 pub mod limits;
+pub mod refusal;
 pub mod step;
 pub mod width;

@@ -1,10 +1,11 @@
 -- What the functions that read a descriptor's parts need and promise, by name.
-use Rattle.std.specs.Prelude.{◌≡◌, Bool, true, List, ℕ, ◌+◌, ◌≤◌, ◌<◌, ◌^◌, length}
+use Rattle.std.specs.Prelude.{◌≡◌, Bool, true, List, ℕ, ◌+◌, ◌≤◌, ◌<◌, ◌^◌, length, Result, IfOk}
 use Rattle.descriptor.specs.Limits.{row_limit}
 use Rattle.descriptor.specs.Header.{header_size, body_at}
 use Rattle.descriptor.specs.Tree.{forest_rows}
 use Rattle.descriptor.specs.Check.{header_at, members_at, tree_at}
 use Rattle.descriptor.specs.inner.Steps.{counted, head_of}
+use Rattle.descriptor.specs.declared.refusal.Refusal.{Refusal}
 use Rattle.descriptor.specs.declared.step.Step.{Step}
 use Rattle.descriptor.specs.declared.header.Head.{Head}
 
@@ -32,10 +33,10 @@ pub record HeadGood (end p levels n : ℕ) (r : Head) : Type 0 where
   pub inside : p + r.size ≤ end
   pub body : r.body ≡ body_at p
 
-pub record HeadMet (s : List ℕ) (levels : ℕ) (in_array : Bool) (end p n : ℕ) (r : Head) : Type 0 where
+pub record HeadMet (s : List ℕ) (levels : ℕ) (in_array : Bool) (end p n : ℕ) (r : Result Head Refusal) : Type 0 where
   pub eq : r ≡ head_of (header_at s levels in_array end p n)
-  pub good : r.ok ≡ true → HeadGood end p levels n r
+  pub good : IfOk r (λ h. HeadGood end p levels n h)
 
 -- descriptors in a row as a step: where they end, and how many rows there are then
-abbrev pub row_step : List ℕ → ℕ → Bool → ℕ → ℕ → ℕ → ℕ → Step
+abbrev pub row_step : List ℕ → ℕ → Bool → ℕ → ℕ → ℕ → ℕ → Result Step Refusal
 row_step s levels in_array end k start n = counted (λ f. n + forest_rows f) (members_at (λ q m. tree_at levels s in_array end q m) k start n)

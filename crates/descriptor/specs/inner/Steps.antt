@@ -1,11 +1,12 @@
--- The outcomes of the readings as the structs that the code hands on: a refusal, or what was read by its numbers alone.
-use Rattle.std.specs.Prelude.{Bool, true, false, cond, List, ℕ, ◌+◌}
+-- The outcomes of the readings as the code hands them on: a refusal, or what was read by its numbers alone.
+use Rattle.std.specs.Prelude.{Bool, true, false, cond, List, ℕ, ◌+◌, Result, Ok, Err}
 use Rattle.descriptor.specs.Codes.{Kind, plain, enumeration, quantity, string, array, cluster, stamp, unknown}
 use Rattle.descriptor.specs.Tree.{Fields, count_of, child_count}
 use Rattle.descriptor.specs.Outcome.{Outcome, refused, read, and_then}
 use Rattle.descriptor.specs.Check.{Header, run_at, judged, base_fits, word_fits}
 use Rattle.descriptor.specs.declared.codes.Kind.{Kind as CodeKind}
 use Rattle.descriptor.specs.declared.codes.Kind.TheVariants as kinds
+use Rattle.descriptor.specs.declared.refusal.Refusal.{Refusal}
 use Rattle.descriptor.specs.declared.step.Step.{Step}
 use Rattle.descriptor.specs.declared.header.Head.{Head}
 
@@ -51,31 +52,28 @@ unfoldable pub words_at : List ℕ → Bool → ℕ → ℕ → ℕ → Outcome 
 words_at s pairs at stop most =
     and_then (run_at s at stop most) (λ last k. and_then (judged (entry_fits s pairs) k (at + 2)) (λ _ _. read last k))
 
-abbrev pub refused_step : ℕ → ℕ → Step
-refused_step number place = record { ok = false; number = number; place = place; next = 0; value = 0; children = 0 }
+abbrev pub refusal_at : ℕ → ℕ → Refusal
+refusal_at number place = record { number = number; place = place }
 
 abbrev pub read_step : ℕ → ℕ → ℕ → Step
-read_step next value children = record { ok = true; number = 0; place = 0; next = next; value = value; children = children }
+read_step next value children = record { next = next; value = value; children = children }
 
 -- an outcome as a step, by a number and how many children were read
-abbrev pub step_of : {A : Type 0} → (A → ℕ) → (A → ℕ) → Outcome A → Step
-step_of value children (refused number place) = refused_step number place
-step_of value children (read next x) = read_step next (value x) (children x)
+abbrev pub step_of : {A : Type 0} → (A → ℕ) → (A → ℕ) → Outcome A → Result Step Refusal
+step_of value children (refused number place) = Err (refusal_at number place)
+step_of value children (read next x) = Ok (read_step next (value x) (children x))
 
 -- an outcome as a step with no children
-abbrev pub counted : {A : Type 0} → (A → ℕ) → Outcome A → Step
+abbrev pub counted : {A : Type 0} → (A → ℕ) → Outcome A → Result Step Refusal
 counted value o = step_of value (λ _. 0) o
 
 -- the outcome of a body's fields as a step
-abbrev pub fields_step : Outcome Fields → Step
+abbrev pub fields_step : Outcome Fields → Result Step Refusal
 fields_step o = step_of count_of child_count o
 
-abbrev pub refused_head : ℕ → ℕ → Head
-refused_head number place = record { ok = false; number = number; place = place; size = 0; body = 0; code = 0 }
-
 abbrev pub read_head : ℕ → ℕ → ℕ → Head
-read_head size body code = record { ok = true; number = 0; place = 0; size = size; body = body; code = code }
+read_head size body code = record { size = size; body = body; code = code }
 
-abbrev pub head_of : Outcome Header → Head
-head_of (refused number place) = refused_head number place
-head_of (read body h) = read_head h.size body h.code
+abbrev pub head_of : Outcome Header → Result Head Refusal
+head_of (refused number place) = Err (refusal_at number place)
+head_of (read body h) = Ok (read_head h.size body h.code)

@@ -1,8 +1,0 @@
--- `bad_code` refuses at the low code byte. Assumes nothing.
-use mathlib.Core.Path.{ap, ◌∙◌}
-use Prim.Native.Nat.{ℕ}
-use Rattle.descriptor.specs.inner.Steps.{refused_head}
-use Rattle.descriptor.proofs.header.bad_code.Goals as goal
-
-pub returns : goal.returns
-returns c = c.refuse_head.ensures ∙ ap (λ (place : ℕ). refused_head 5 place) c.code_place.ensures
