@@ -9,7 +9,6 @@ use Rattle.descriptor.specs.inner.Steps.{kind_is, is_compound}
 use Rattle.descriptor.specs.declared.codes.Kind.TheVariants as kinds
 use Rattle.descriptor.proofs.CodeKinds.{kind_named, known}
 use Rattle.descriptor.proofs.Bodies.{header-room}
-use Rattle.flattened.specs.inner.Extent.{judges}
 use Rattle.flattened.specs.declared.extent.Extent.TheVariants.{Fixed}
 use Rattle.flattened.proofs.Cases.{compound-inside, row_inside, extent-number, extent-text, extent-members, extent-other}
 use Rattle.flattened.proofs.Types.{type-deep}
@@ -26,7 +25,7 @@ pub extent_of-returns-then-w-ne0 : goal.extent_of-returns-then-w-ne0
 extent_of-returns-then-w-ne0 t c =
     let a = c.args in
     let wide = c.width-w.ensures ∙ ap width_of c.code_at-code.ensures in
-    let judged = c.judges.ensures ∙ ap judges c.rule_of.ensures in
+    let judged = c.judges.ensures ∙ ap judges c.limit_of.ensures in
     (λ i. Fixed (wide i) 1 (judged i)) ∙ extent-number a.d.now a.p c.requires.here (omega (arith, c.if-w-ne0.true))
 
 pub extent_of-returns-in-Text : goal.extent_of-returns-in-Text
