@@ -16,7 +16,7 @@ use Rattle.flattened.specs.Order.{Order, big, little, number_at}
 use Rattle.flattened.specs.Token.{Token, scalar}
 use Rattle.flattened.specs.Walk.{single, scalar_at, walk_fields}
 use Rattle.flattened.specs.inner.Extent.{is_scalar, limit_of, keeps}
-use Rattle.std.specs.Prelude.{Option, Some, None}
+use Rattle.std.specs.Prelude.{Option}
 
 -- one byte is the same number in either order
 pub byte-number : (o : Order) (s : List ℕ) (at : ℕ) → number_at o s at 1 ≡ get_or s at 0

@@ -4,10 +4,8 @@ use mathlib.Core.Path.{◌≡◌, refl, sym, ap, ap₂, ◌∙◌}
 use mathlib.Core.Bool.{true, false}
 use mathlib.Core.List.{List, ◌∷◌}
 use Prim.Native.Nat.{ℕ, zero, suc, ◌+◌, ◌-◌, ◌*◌, ◌<◌, ◌≤◌, min}
-use Rattle.std.specs.Prelude.{Option, Some, None, Result, Ok, Err}
+use Rattle.std.specs.Prelude.{Ok, Err}
 use Rattle.descriptor.specs.inner.Steps.{refusal_at}
-use Rattle.descriptor.specs.declared.refusal.Refusal.{Refusal}
-use Rattle.flattened.specs.declared.progress.Walked.{Walked}
 use native.Mathlib.Nat.{sub-zero, mul-zero, mul-suc, mul_assoc, mul-one, one-mul, min-eq_left, min-eq_right}
 use native.Mathlib.Decide.{dec_le}
 use native.Mathlib.Omega.{arith}
@@ -16,7 +14,7 @@ use lib.ListN.{length}
 use Rattle.descriptor.specs.Limits.{length_limit}
 use Rattle.flattened.specs.Order.{Order, number_at}
 use Rattle.flattened.specs.Walk.{sizes_at, sizes_fit, product, array_at}
-use Rattle.flattened.specs.inner.Cursor.{word, cursor}
+use Rattle.flattened.specs.inner.Cursor.{cursor}
 use Rattle.flattened.specs.inner.Sizes.{sizes_of, element_cap, capped_sizes}
 use Rattle.flattened.specs.declared.cursor.Cursor.{Cursor}
 

@@ -2,7 +2,7 @@
 use mathlib.Core.Path.{◌≡◌, refl, sym, ap, ◌∙◌}
 use mathlib.Core.List.{List, ◌++◌}
 use Prim.Native.Nat.{ℕ, ◌+◌}
-use Rattle.std.specs.Prelude.{Option, Some, None, Result, Ok, Err}
+use Rattle.std.specs.Prelude.{Result, Ok, Err}
 use Rattle.descriptor.specs.inner.Steps.{refusal_at}
 use Rattle.descriptor.specs.declared.refusal.Refusal.{Refusal}
 use Rattle.flattened.specs.declared.progress.Walked.{Walked}
@@ -12,7 +12,7 @@ use Rattle.descriptor.specs.Outcome.{Outcome, refused, read, and_then}
 use Rattle.descriptor.proofs.Outcomes.{Holds, holds_read}
 use Rattle.flattened.specs.Token.{Token}
 use Rattle.flattened.specs.Walk.{follow}
-use Rattle.flattened.specs.inner.Cursor.{word, cursor}
+use Rattle.flattened.specs.inner.Cursor.{cursor}
 use Rattle.flattened.specs.inner.Progress.{walked_to, progress, plus, Reads}
 use Rattle.flattened.specs.declared.cursor.Cursor.{Cursor}
 

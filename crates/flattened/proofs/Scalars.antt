@@ -2,10 +2,8 @@
 use mathlib.Core.Path.{◌≡◌, refl, sym, ap, ◌∙◌}
 use mathlib.Core.List.{List}
 use Prim.Native.Nat.{ℕ, ◌+◌, ◌<◌, ◌≤◌}
-use Rattle.std.specs.Prelude.{Option, Some, None, Result, Ok, Err}
+use Rattle.std.specs.Prelude.{Option, Some, None, Ok, Err}
 use Rattle.descriptor.specs.inner.Steps.{refusal_at}
-use Rattle.descriptor.specs.declared.refusal.Refusal.{Refusal}
-use Rattle.flattened.specs.declared.progress.Walked.{Walked}
 use native.Mathlib.Omega.{arith}
 use borrow.Author.Tests.{lt-ltb, le-ltb}
 use lib.ListN.{length}
@@ -14,7 +12,7 @@ use Rattle.descriptor.specs.Width.{width_of}
 use Rattle.descriptor.specs.inner.Standing.{Stands}
 use Rattle.flattened.specs.Order.{Order, number_at}
 use Rattle.flattened.specs.Walk.{walk}
-use Rattle.flattened.specs.inner.Cursor.{word, cursor}
+use Rattle.flattened.specs.inner.Cursor.{cursor}
 use Rattle.flattened.specs.inner.Extent.{type_limit, keeps}
 use Rattle.flattened.specs.inner.Progress.{walked_to, progress}
 use Rattle.flattened.specs.inner.Types.{type_at}

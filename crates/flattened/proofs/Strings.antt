@@ -3,17 +3,15 @@
 use mathlib.Core.Path.{◌≡◌, ap, ◌∙◌}
 use mathlib.Core.List.{List}
 use Prim.Native.Nat.{ℕ, ◌+◌, ◌<◌, ◌≤◌}
-use Rattle.std.specs.Prelude.{Option, Some, None, Result, Ok, Err}
+use Rattle.std.specs.Prelude.{Ok, Err}
 use Rattle.descriptor.specs.inner.Steps.{refusal_at}
-use Rattle.descriptor.specs.declared.refusal.Refusal.{Refusal}
-use Rattle.flattened.specs.declared.progress.Walked.{Walked}
 use native.Mathlib.Omega.{arith}
 use borrow.Author.Tests.{le-leb, lt-leb, lt-ltb, le-ltb}
 use lib.ListN.{length}
 use Rattle.descriptor.specs.Limits.{length_limit}
 use Rattle.flattened.specs.Order.{Order, number_at}
 use Rattle.flattened.specs.Walk.{text_at}
-use Rattle.flattened.specs.inner.Cursor.{word, cursor}
+use Rattle.flattened.specs.inner.Cursor.{cursor}
 use Rattle.flattened.specs.inner.Progress.{walked_to, progress}
 use Rattle.flattened.specs.declared.cursor.Cursor.{Cursor}
 use Rattle.flattened.proofs.Steps.{Skipped, WordRead}

@@ -38,9 +38,7 @@ fn fixed_joint(w: usize, k: usize, j: bool, next: Extent) -> Extent
     match next {
         Extent::Varies => Extent::Varies,
         Extent::Fixed(v, n, i) => Extent::Fixed(w + v, k + n, j | i),
-        Extent::Around(before, after, n, i) => {
-            Extent::Around(w + before, after, k + n, j | i)
-        }
+        Extent::Around(before, after, n, i) => { Extent::Around(w + before, after, k + n, j | i) }
     }
 }
 

@@ -15,7 +15,14 @@ use super::progress::Walked;
 use descriptor::refusal::{Fault, Refusal};
 
 // The value of the type at p, which takes w bytes.
-pub fn scalar(d: &[u8], p: usize, w: usize, s: &[u8], from: Cursor, o: Order) -> Result<Walked, Refusal>
+pub fn scalar(
+    d: &[u8],
+    p: usize,
+    w: usize,
+    s: &[u8],
+    from: Cursor,
+    o: Order,
+) -> Result<Walked, Refusal>
     requires stands { Stands d.now p }
     requires w_value { (w ≡ width_of (code_in d.now p)) × (0 < w) }
     requires at_in_bounds { from.at ≤ length s.now }
