@@ -17,10 +17,10 @@ pub struct Answer {
 // The input at fault: the first or the rig's descriptor, the second or the reader's, the data, or the request.
 #[derive(Clone, Copy, Debug, PartialEq, Eq)]
 pub enum Input {
-    First,
-    Second,
-    Data,
-    Request,
+    First = 1,
+    Second = 2,
+    Data = 3,
+    Request = 4,
 }
 
 impl Input {
@@ -28,12 +28,7 @@ impl Input {
     pub fn number(self) -> u32
         ensures { result ≡ input_of self }
     {
-        match self {
-            Input::First => 1,
-            Input::Second => 2,
-            Input::Data => 3,
-            Input::Request => 4,
-        }
+        self as u32
     }
 }
 
