@@ -1,9 +1,9 @@
 -- Laws of steps and of the outcomes that they carry. Assumes nothing.
-use mathlib.Core.Path.{◌≡◌, refl, ap, sym, ◌∙◌}
+use mathlib.Core.Path.{◌≡◌, refl, ap, sym}
 use mathlib.Core.Bool.{Bool, true, false}
 use Prim.Native.Nat.{ℕ}
 use native.Mathlib.Omega.{arith}
-use Rattle.std.specs.Prelude.{Result, Ok, Err}
+use Rattle.std.specs.Prelude.{Ok, Err}
 use Rattle.descriptor.specs.Outcome.{Outcome, refused, read, and_then}
 use Rattle.descriptor.specs.inner.Steps.{step_of, counted, read_step}
 use Rattle.descriptor.specs.declared.refusal.Refusal.{Refusal}
@@ -25,11 +25,11 @@ got count children (refused number place) r e = absurd (cc)
 got count children (read next x) r e =
     let same : r ≡ read_step next (count x) (children x) = cc in
     record {
-  value = x;
-  eq = ap (λ (k : ℕ). read k x) (sym (ap (λ (y : Step). y.next) same));
-  counts = ap (λ (y : Step). y.value) same;
-  inside = ap (λ (y : Step). y.children) same;
-}
+      value = x;
+      eq = ap (λ (k : ℕ). read k x) (sym (ap (λ (y : Step). y.next) same));
+      counts = ap (λ (y : Step). y.value) same;
+      inside = ap (λ (y : Step). y.children) same;
+    }
 
 -- a refusal: what was refused
 pub lost : {A : Type 0} (count children : A → ℕ) (o : Outcome A) (r : Refusal) → Err r ≡ step_of count children o → o ≡ refused r.number r.place

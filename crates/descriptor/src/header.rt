@@ -71,7 +71,14 @@ fn nested_array(p: usize) -> Refusal
 }
 
 // The header of the descriptor at p, whose parent ends at `end`, with `levels` left of the depth and n rows before it.
-pub fn header(d: &[u8], levels: usize, in_array: bool, end: usize, p: usize, n: usize) -> Result<Head, Refusal>
+pub fn header(
+    d: &[u8],
+    levels: usize,
+    in_array: bool,
+    end: usize,
+    p: usize,
+    n: usize,
+) -> Result<Head, Refusal>
     requires { Within d.now p end }
     ensures { HeadMet d.now levels in_array end p n result }
 {

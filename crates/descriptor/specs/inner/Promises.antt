@@ -1,5 +1,5 @@
 -- What the functions that read a descriptor's parts need and promise, by name.
-use Rattle.std.specs.Prelude.{◌≡◌, Bool, true, List, ℕ, ◌+◌, ◌≤◌, ◌<◌, ◌^◌, length, Result, IfOk}
+use Rattle.std.specs.Prelude.{◌≡◌, Bool, List, ℕ, ◌+◌, ◌≤◌, ◌<◌, ◌^◌, length, Result, IfOk}
 use Rattle.descriptor.specs.Limits.{row_limit}
 use Rattle.descriptor.specs.Header.{header_size, body_at}
 use Rattle.descriptor.specs.Tree.{forest_rows}

@@ -6,7 +6,6 @@ use native.Mathlib.Omega.{arith}
 use borrow.Author.Tests.{eq-eqb, ne_eqb, le-leb, lt-leb, lt-ltb, le-ltb}
 use Rattle.descriptor.specs.Codes.{kind_of, is_array}
 use Rattle.descriptor.specs.Check.{header_at}
-use Rattle.descriptor.proofs.Steps.{impossible}
 use Rattle.descriptor.proofs.header.header.Goals as goal
 use Rattle.descriptor.proofs.header.header.Goals.{then-in_array+else-is_array, else-in_array}
 
