@@ -12,7 +12,6 @@ pub code_at-requires : goal.code_at-requires
 code_at-requires c = let start = c in header-room start.args.d.now start.args.p start.requires.type.here
 
 pub past_array-requires : goal.past_array-requires
-unfolding kind_named
 past_array-requires c =
     let start = c in
     let a = start.args in
@@ -20,7 +19,6 @@ past_array-requires c =
     array_lies a.d.now a.p 0 0 a.s.now a.from.at (one_lies a.d.now a.p a.s.now a.from.at start.requires) _ c.inside_of-inside.ensures kind
 
 pub returns-in-Array : goal.returns-in-Array
-unfolding kind_named
 returns-in-Array c =
     let start = c in
     let a = start.args in

@@ -16,7 +16,6 @@ pub inside_of-inside-requires : goal.inside_of-inside-requires
 inside_of-inside-requires c = c.requires.lies.type.here
 
 pub element-requires : goal.element-requires
-unfolding kind_named
 element-requires c =
     let start = c in
     let a = start.args in
@@ -24,7 +23,6 @@ element-requires c =
     record { array_lies = array_lies a.d.now a.p a.i a.k a.s.now a.from.at start.requires.lies _ c.inside_of-inside.ensures kind; k_bound = (start.requires.k_bound, shallow start.requires.lies.type) }
 
 pub returns-in-Array : goal.returns-in-Array
-unfolding kind_named
 returns-in-Array c =
     let start = c in
     let a = start.args in
