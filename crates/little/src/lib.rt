@@ -5,8 +5,9 @@ ghost use Rattle.std.specs.Prelude.{◌≡◌};
 ghost use Rattle.flattened.specs.inner.Order.{order_of};
 ghost use Rattle.byte_order.specs.Reversal.{turned, to_little_endian, from_little_endian};
 
-use descriptor::answer::{Answer, answered};
+use descriptor::answer::{Answer, Input};
 use descriptor::limits::DEPTH_LIMIT;
+use descriptor::refusal::Fault;
 use flattened::order::Order;
 use turning::turn::turn_values;
 use walking::check::check_ordered;
@@ -23,10 +24,10 @@ fn turn_data(d: &[u8], s: &[u8], out: &mut [u8], o: Order) -> Answer
     }
     let n = s.len();
     if out.len() < n {
-        return answered(50, 4, n);
+        return Answer::refused(Fault::Room, Input::Request, n);
     }
     turn_values(d, 0, 1, s, out, 0, o, DEPTH_LIMIT);
-    answered(0, 0, n)
+    Answer::accepted(n)
 }
 
 // Writes the little-endian form of the data s under the descriptor d to the front of out. An accepted answer's place is the length written,

@@ -4,10 +4,8 @@ use mathlib.Core.Path.{◌≡◌, refl, sym, ap, subst, ◌∙◌}
 use mathlib.Core.Bool.{true}
 use mathlib.Core.List.{List, ◌∷◌}
 use Prim.Native.Nat.{ℕ, suc, ◌+◌, ◌-◌, ◌*◌, ◌<◌, ◌≤◌, min}
-use Rattle.std.specs.Prelude.{Option, Some, None, Result, Ok, Err}
+use Rattle.std.specs.Prelude.{Ok, Err}
 use Rattle.descriptor.specs.inner.Steps.{refusal_at}
-use Rattle.descriptor.specs.declared.refusal.Refusal.{Refusal}
-use Rattle.flattened.specs.declared.progress.Walked.{Walked}
 use native.Mathlib.Nat.{sub-zero}
 use native.Mathlib.Omega.{arith}
 use lib.ListN.{length}
@@ -24,7 +22,8 @@ use Rattle.flattened.specs.Order.{Order}
 use Rattle.flattened.specs.Token.{Token, sizes}
 use Rattle.flattened.specs.Walk.{token, single, array_at, follow, repeat, walk, walk_all}
 use Rattle.flattened.specs.inner.Arrays.{elements_at}
-use Rattle.flattened.specs.inner.Cursor.{word, cursor}
+use Rattle.flattened.specs.inner.Cursor.{cursor}
+use Rattle.flattened.specs.declared.sizes.Sizes.{Sizes}
 use Rattle.flattened.specs.inner.Sizes.{sizes_of, element_cap, capped_sizes}
 use Rattle.flattened.specs.inner.Types.{type_at, types_at, RowStands, Solid}
 use Rattle.flattened.specs.declared.cursor.Cursor.{Cursor}
@@ -104,10 +103,10 @@ unfolding capped_sizes
 sizes-read o s k at n c e = go (array_at o s k at) refl (sizes-end s o k at) e
   where
     go : (a : Outcome ℕ) → array_at o s k at ≡ a → Holds (λ q m. (q ≡ at + 4 * k) × (q ≤ length s)) a → Ok (sizes_of n c) ≡ capped_sizes a → SizesRead o s k at n
-    go (refused number place) h held e = absurd (let z : ◌≡◌ {A = ℕ} 0 1 = cc in omega arith)
+    go (refused number place) h held e = absurd (cc)
     go (read next m) h held e =
         let ends = holds_read refl held in
-        record { fits = omega (arith, ends.0, ends.1); many = m; eq = h ∙ ap (λ (q : ℕ). read q m) ends.0; capped = cc }
+        record { fits = omega (arith, ends.0, ends.1); many = m; eq = h ∙ ap (λ (q : ℕ). read q m) ends.0; capped = ap (λ (x : Sizes). x.count) (let same : sizes_of n c ≡ sizes_of (min m element_cap) (cursor next) = cc in same) }
 
 -- where they are turned
 pub sizes-done : (o : Order) (s : List ℕ) (k at n : ℕ) (c : Cursor) (before after : List ℕ) → Ok (sizes_of n c) ≡ capped_sizes (array_at o s k at)

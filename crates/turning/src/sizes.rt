@@ -10,7 +10,7 @@ ghost use Rattle.turning.specs.inner.Tokens.{SizesTurned};
 use byte_order::runs::turn_run_4;
 use flattened::cursor::Cursor;
 use flattened::order::Order;
-use flattened::sizes::{Sizes, size_words};
+use flattened::sizes::size_words;
 
 // The size words of `dims` dimensions, from `at` on; how many elements follow them.
 pub fn turn_sizes(s: &[u8], out: &mut [u8], at: usize, dims: usize, o: Order) -> usize
@@ -19,13 +19,10 @@ pub fn turn_sizes(s: &[u8], out: &mut [u8], at: usize, dims: usize, o: Order) ->
     requires room { Room s.now out.old at }
     ensures { SizesTurned (order_of o) dims s.now at out.old out.new result }
 {
-    let sizes = size_words(s, Cursor { at }, dims, o);
-    match sizes {
-        Sizes::Count(n, elements) => {
-            turn_run_4(s, out, at, dims);
-            n
-        }
-        // Not in data that was accepted.
-        Sizes::Refused(number, place) => 0,
-    }
+    // In data that was accepted the sizes are read.
+    let Ok(sizes) = size_words(s, Cursor { at }, dims, o) else {
+        return 0;
+    };
+    turn_run_4(s, out, at, dims);
+    sizes.count
 }

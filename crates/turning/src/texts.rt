@@ -25,10 +25,8 @@ pub fn turn_texts(s: &[u8], out: &mut [u8], n: usize, from: usize, o: Order) -> 
     ensures { Turned (repeat (λ a. text_at (order_of o) s.now a) n from) s.now out.old out.new result }
 {
     let mut at = from;
-    let mut i = 0;
-    while i < n {
+    for _ in 0..n {
         at = turn_text(s, out, at, o);
-        i += 1;
     }
     at
 }

@@ -103,11 +103,9 @@ fn turn_rows(
     ensures { Turned (repeat (λ a. walk_all (order_of o) (types_at d.now k start) s.now a) n from) s.now out.old out.new result }
 {
     let mut at = from;
-    let mut i = 0;
-    while i < n {
+    for _ in 0..n {
         let mut p = start;
-        let mut j = 0;
-        while j < k {
+        for _ in 0..k {
             let code = code_at(d, p);
             let w = width(code);
             if w != 0 {
@@ -117,9 +115,7 @@ fn turn_rows(
                 at = turn_value(d, p, s, out, at, o, left);
             }
             p += size_at(d, p);
-            j += 1;
         }
-        i += 1;
     }
     at
 }

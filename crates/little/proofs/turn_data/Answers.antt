@@ -13,8 +13,8 @@ returns-then-checked-ne0 c =
     let q = turn-refused (order_of a.o) a.d.now a.s.now a.out.now (λ e. c.if-checked-ne0.true (ap (λ (x : Answer). x.number) c.check_ordered-checked.ensures ∙ e)) in
     record { answer = c.check_ordered-checked.ensures ∙ ap (λ (x : Written). x.answer) q; wrote = ap (λ (x : Written). x.out) q }
 
-pub answered-requires : goal.answered-requires
-answered-requires c =
+pub refused-requires : goal.refused-requires
+refused-requires c =
     let a = c.args in
     let whole = check-accepts (order_of a.o) a.d.now a.s.now a.out.now (ap (λ (x : Answer). x.number) (sym c.check_ordered-checked.ensures) ∙ c.if-checked-ne0.false) in
     omega (arith, accepted-short (order_of a.o) a.d.now a.s.now a.out.now whole)
@@ -24,7 +24,7 @@ returns-then-out-n c =
     let a = c.args in
     let whole = check-accepts (order_of a.o) a.d.now a.s.now a.out.now (ap (λ (x : Answer). x.number) (sym c.check_ordered-checked.ensures) ∙ c.if-checked-ne0.false) in
     let q = turn_small (order_of a.o) a.d.now a.s.now a.out.now whole c.if-out-n.true in
-    record { answer = c.answered.ensures ∙ ap (λ (x : Written). x.answer) q; wrote = ap (λ (x : Written). x.out) q }
+    record { answer = c.refused.ensures ∙ ap (λ (x : Written). x.answer) q; wrote = ap (λ (x : Written). x.out) q }
 
 pub turn_values-requires : goal.turn_values-requires
 turn_values-requires c =
@@ -32,8 +32,8 @@ turn_values-requires c =
     let whole = check-accepts (order_of a.o) a.d.now a.s.now a.out.now (ap (λ (x : Answer). x.number) (sym c.check_ordered-checked.ensures) ∙ c.if-checked-ne0.false) in
     record { type_stands = accepted-stands (order_of a.o) a.d.now a.s.now a.out.now whole; turnable = accepted-turnable (order_of a.o) a.d.now a.s.now a.out.now whole c.if-out-n.false }
 
-pub answered-requires-2 : goal.answered-requires-2
-answered-requires-2 c =
+pub accepted-requires : goal.accepted-requires
+accepted-requires c =
     let a = c.args in
     let whole = check-accepts (order_of a.o) a.d.now a.s.now a.out.now (ap (λ (x : Answer). x.number) (sym c.check_ordered-checked.ensures) ∙ c.if-checked-ne0.false) in
     omega (arith, accepted-short (order_of a.o) a.d.now a.s.now a.out.now whole)
@@ -43,4 +43,4 @@ returns c =
     let a = c.args in
     let whole = check-accepts (order_of a.o) a.d.now a.s.now a.out.now (ap (λ (x : Answer). x.number) (sym c.check_ordered-checked.ensures) ∙ c.if-checked-ne0.false) in
     let q = turn-written (order_of a.o) a.d.now a.s.now a.out.now whole c.if-out-n.false _ _ c.turn_values.ensures in
-    record { answer = c.answered-2.ensures ∙ ap (λ (x : Written). x.answer) q; wrote = ap (λ (x : Written). x.out) q }
+    record { answer = c.accepted.ensures ∙ ap (λ (x : Written). x.answer) q; wrote = ap (λ (x : Written). x.out) q }

@@ -1,6 +1,6 @@
 -- How the code turns accepted data from one byte order to the other: token by token, each at its own place of the output, and what its
 -- functions need and promise.
-use Rattle.std.specs.Prelude.{◌≡◌, true, List, [], ◌∷◌, ℕ, ◌+◌, ◌*◌, ◌≤◌, length}
+use Rattle.std.specs.Prelude.{◌≡◌, true, List, [], ◌∷◌, ℕ, ◌+◌, ◌*◌, ◌≤◌, length, Ok}
 use Rattle.std.proofs.lemmas.List.Edits.{sets}
 use Rattle.descriptor.specs.Limits.{data_limit}
 use Rattle.descriptor.specs.Outcome.{Outcome, refused, read}
@@ -9,8 +9,7 @@ use Rattle.flattened.specs.Order.{Order}
 use Rattle.flattened.specs.Token.{Token, token_bytes}
 use Rattle.flattened.specs.Walk.{array_at}
 use Rattle.flattened.specs.inner.Cursor.{cursor}
-use Rattle.flattened.specs.inner.Sizes.{capped_sizes}
-use Rattle.flattened.specs.declared.sizes.Sizes.TheVariants.{Count}
+use Rattle.flattened.specs.inner.Sizes.{sizes_of, capped_sizes}
 use Rattle.byte_order.specs.Reversal.{reverse_token}
 use Rattle.byte_order.specs.inner.Turning.{turned_run, Room}
 
@@ -38,5 +37,5 @@ pub record Turned (o : Outcome (List Token)) (s before after : List ℕ) (next :
 
 -- the size words of k dimensions are turned, and n elements follow them, counted as the check counts them
 pub record SizesTurned (o : Order) (k : ℕ) (s : List ℕ) (at : ℕ) (before after : List ℕ) (n : ℕ) : Type 0 where
-  pub sized : Count n (cursor (at + 4 * k)) ≡ capped_sizes (array_at o s k at)
+  pub sized : Ok (sizes_of n (cursor (at + 4 * k))) ≡ capped_sizes (array_at o s k at)
   pub bytes : after ≡ turned_run 4 s k at before

@@ -8,15 +8,15 @@ use Rattle.turning.proofs.sizes.turn_sizes.Goals as goal
 pub turn_run_4-requires : goal.turn_run_4-requires
 turn_run_4-requires c =
     let a = c.args in
-    let r = sizes-read (order_of a.o) a.s.now a.dims a.at _ _ (sym c.in-Count.is ∙ c.size_words-sizes.ensures) in
+    let r = sizes-read (order_of a.o) a.s.now a.dims a.at _ _ (sym c.in-Ok.is ∙ c.size_words.ensures) in
     record { inside = omega (arith, r.fits); room = c.requires.room.room }
 
-pub returns-in-Count : goal.returns-in-Count
-returns-in-Count c =
+pub returns : goal.returns
+returns c =
     let a = c.args in
-    sizes-done (order_of a.o) a.s.now a.dims a.at _ _ a.out.now _ (sym c.in-Count.is ∙ c.size_words-sizes.ensures) c.turn_run_4.ensures
+    sizes-done (order_of a.o) a.s.now a.dims a.at _ _ a.out.now _ (sym c.in-Ok.is ∙ c.size_words.ensures) c.turn_run_4.ensures
 
-pub returns-in-Refused : goal.returns-in-Refused
-returns-in-Refused c =
+pub returns-in_default : goal.returns-in_default
+returns-in_default c =
     let a = c.args in
-    absurd (sizes-refused (order_of a.o) a.s.now a.dims a.at _ _ c.requires.at_value (sym c.in-Refused.is ∙ c.size_words-sizes.ensures))
+    absurd (sizes-refused (order_of a.o) a.s.now a.dims a.at _ _ c.requires.at_value (sym c.in_default.is ∙ c.size_words.ensures))

@@ -23,105 +23,93 @@ use Rattle.descriptor.specs.Header.{code_in}
 use Rattle.turning.proofs.turn.+turn_rows_turn_value_turn_values.Goals as goal
 use Rattle.turning.proofs.turn.+turn_rows_turn_value_turn_values.Goals.{turn_rows-then-w-ne0, turn_rows-else-w-ne0}
 
-pub turn_rows-loop-i-init : goal.turn_rows-loop-i-init
-turn_rows-loop-i-init t c = let a = c.args in repeat-begin (λ q. walk_all (order_of a.o) (types_at a.d.now a.k a.start) a.s.now q) a.s.now a.out.now a.n a.from c.requires.turnable
+pub turn_rows-loop-init : goal.turn_rows-loop-init
+turn_rows-loop-init t c = let a = c.args in repeat-begin (λ q. walk_all (order_of a.o) (types_at a.d.now a.k a.start) a.s.now q) a.s.now a.out.now a.n a.from c.requires.turnable
 
-pub turn_rows-loop-j-init : goal.turn_rows-loop-j-init
-turn_rows-loop-j-init t c =
+pub turn_rows-loop-2-init : goal.turn_rows-loop-2-init
+turn_rows-loop-2-init t c =
     let a = c.args in
-    let m = c.loop-i in
-    row-begin a.d.now (order_of a.o) a.s.now m.out a.k a.start m.at a.left c.requires.row_stands (repeat-here (λ q. walk_all (order_of a.o) (types_at a.d.now a.k a.start) a.s.now q) a.s.now a.out.now a.n a.from m.out m.at m.i m.invariant c.loop-i-test.true)
+    let m = c.loop in
+    row-begin a.d.now (order_of a.o) a.s.now m.out a.k a.start m.at a.left c.requires.row_stands (repeat-here (λ q. walk_all (order_of a.o) (types_at a.d.now a.k a.start) a.s.now q) a.s.now a.out.now a.n a.from m.out m.at m.counter m.invariant c.loop-test.true)
 
 pub turn_rows-code_at-code-requires : goal.turn_rows-code_at-code-requires
 turn_rows-code_at-code-requires t c =
     let a = c.args in
-    let m = c.loop-i in
-    let l = c.loop-j in
-    let turn = row_here a.d.now (order_of a.o) a.s.now m.out a.k a.start m.at a.left l.out l.p l.at l.j l.invariant c.loop-j-test.true in
+    let m = c.loop in
+    let l = c.loop-2 in
+    let turn = row_here a.d.now (order_of a.o) a.s.now m.out a.k a.start m.at a.left l.out l.p l.at l.counter l.invariant c.loop-2-test.true in
     header-room a.d.now l.p turn.first.here
 
 pub turn_rows-turn_scalar-requires : goal.turn_rows-turn_scalar-requires
 turn_rows-turn_scalar-requires t c =
     let a = c.args in
-    let m = c.loop-i in
-    let l = c.loop-j in
-    let turn = row_here a.d.now (order_of a.o) a.s.now m.out a.k a.start m.at a.left l.out l.p l.at l.j l.invariant c.loop-j-test.true in
-    record { w_value = (c.width-w.ensures, omega (arith, c.if-w-ne0.true)); room = scalar-room a.d.now l.p turn.first.here _ _ c.code_at-code.ensures c.width-w.ensures (omega (arith, c.if-w-ne0.true)) (order_of a.o) a.s.now l.at l.out (row-ready a.d.now (order_of a.o) a.s.now m.out a.k a.start m.at a.left l.out l.p l.at l.j l.invariant c.loop-j-test.true) }
+    let m = c.loop in
+    let l = c.loop-2 in
+    let turn = row_here a.d.now (order_of a.o) a.s.now m.out a.k a.start m.at a.left l.out l.p l.at l.counter l.invariant c.loop-2-test.true in
+    record { w_value = (c.width-w.ensures, omega (arith, c.if-w-ne0.true)); room = scalar-room a.d.now l.p turn.first.here _ _ c.code_at-code.ensures c.width-w.ensures (omega (arith, c.if-w-ne0.true)) (order_of a.o) a.s.now l.at l.out (row-ready a.d.now (order_of a.o) a.s.now m.out a.k a.start m.at a.left l.out l.p l.at l.counter l.invariant c.loop-2-test.true) }
 
 pub turn_rows-overflow_add-at : goal.turn_rows-overflow_add-at
 turn_rows-overflow_add-at t c =
     let a = c.args in
-    let m = c.loop-i in
-    let l = c.loop-j in
-    let turn = row_here a.d.now (order_of a.o) a.s.now m.out a.k a.start m.at a.left l.out l.p l.at l.j l.invariant c.loop-j-test.true in
-    omega (arith, (scalar-room a.d.now l.p turn.first.here _ _ c.code_at-code.ensures c.width-w.ensures (omega (arith, c.if-w-ne0.true)) (order_of a.o) a.s.now l.at l.out (row-ready a.d.now (order_of a.o) a.s.now m.out a.k a.start m.at a.left l.out l.p l.at l.j l.invariant c.loop-j-test.true)).inside)
+    let m = c.loop in
+    let l = c.loop-2 in
+    let turn = row_here a.d.now (order_of a.o) a.s.now m.out a.k a.start m.at a.left l.out l.p l.at l.counter l.invariant c.loop-2-test.true in
+    omega (arith, (scalar-room a.d.now l.p turn.first.here _ _ c.code_at-code.ensures c.width-w.ensures (omega (arith, c.if-w-ne0.true)) (order_of a.o) a.s.now l.at l.out (row-ready a.d.now (order_of a.o) a.s.now m.out a.k a.start m.at a.left l.out l.p l.at l.counter l.invariant c.loop-2-test.true)).inside)
 
 pub turn_rows-turn_value-at-requires : goal.turn_rows-turn_value-at-requires
 turn_rows-turn_value-at-requires t c =
     let a = c.args in
-    let m = c.loop-i in
-    let l = c.loop-j in
-    let turn = row_here a.d.now (order_of a.o) a.s.now m.out a.k a.start m.at a.left l.out l.p l.at l.j l.invariant c.loop-j-test.true in
+    let m = c.loop in
+    let l = c.loop-2 in
+    let turn = row_here a.d.now (order_of a.o) a.s.now m.out a.k a.start m.at a.left l.out l.p l.at l.counter l.invariant c.loop-2-test.true in
     let wide = c.width-w.ensures ∙ ap width_of c.code_at-code.ensures in
-    (omega (arith, c.decreases), (turn.first, (omega (arith, c.if-w-ne0.false, wide), (row-ready a.d.now (order_of a.o) a.s.now m.out a.k a.start m.at a.left l.out l.p l.at l.j l.invariant c.loop-j-test.true))))
+    (omega (arith, c.decreases), (turn.first, (omega (arith, c.if-w-ne0.false, wide), (row-ready a.d.now (order_of a.o) a.s.now m.out a.k a.start m.at a.left l.out l.p l.at l.counter l.invariant c.loop-2-test.true))))
 
 pub turn_rows-size_at-p-requires : goal.turn_rows-size_at-p-requires
 turn_rows-size_at-p-requires t c =
     let a = c.args in
-    let m = c.loop-i in
-    let l = c.loop-j in
-    let turn = row_here a.d.now (order_of a.o) a.s.now m.out a.k a.start m.at a.left l.out l.p l.at l.j l.invariant c.loop-j-test.true in
+    let m = c.loop in
+    let l = c.loop-2 in
+    let turn = row_here a.d.now (order_of a.o) a.s.now m.out a.k a.start m.at a.left l.out l.p l.at l.counter l.invariant c.loop-2-test.true in
     header-room a.d.now l.p turn.first.here
 
 pub turn_rows-overflow_add-p : goal.turn_rows-overflow_add-p
 turn_rows-overflow_add-p t c =
     let a = c.args in
-    let m = c.loop-i in
-    let l = c.loop-j in
-    let turn = row_here a.d.now (order_of a.o) a.s.now m.out a.k a.start m.at a.left l.out l.p l.at l.j l.invariant c.loop-j-test.true in
+    let m = c.loop in
+    let l = c.loop-2 in
+    let turn = row_here a.d.now (order_of a.o) a.s.now m.out a.k a.start m.at a.left l.out l.p l.at l.counter l.invariant c.loop-2-test.true in
     omega (arith, c.size_at-p.ensures.eq, turn.within, turn.rest.small)
 
-pub turn_rows-overflow_add-j : goal.turn_rows-overflow_add-j
-turn_rows-overflow_add-j t c = omega (arith, c.loop-j-test.true)
-
-pub turn_rows-loop-j-smaller : goal.turn_rows-loop-j-smaller
-turn_rows-loop-j-smaller t c = omega (arith, c.loop-j-test.true)
-
-pub turn_rows-loop-j-preserved : goal.turn_rows-loop-j-preserved
-turn_rows-loop-j-preserved t c =
+pub turn_rows-loop-2-preserved : goal.turn_rows-loop-2-preserved
+turn_rows-loop-2-preserved t c =
     let a = c.args in
-    let m = c.loop-i in
-    let l = c.loop-j in
-    let turn = row_here a.d.now (order_of a.o) a.s.now m.out a.k a.start m.at a.left l.out l.p l.at l.j l.invariant c.loop-j-test.true in
+    let m = c.loop in
+    let l = c.loop-2 in
+    let turn = row_here a.d.now (order_of a.o) a.s.now m.out a.k a.start m.at a.left l.out l.p l.at l.counter l.invariant c.loop-2-test.true in
     let done : Turned (walk (order_of a.o) (type_at a.d.now l.p) a.s.now l.at) a.s.now l.out c.if-w-ne0.out c.if-w-ne0.at =
     (elim c.if-w-ne0.branch [
       | turn_rows-then-w-ne0 w ↦ turned-at _ a.s.now l.out _ _ _ _ w.out-is w.at-is
-          (scalar-done a.d.now l.p turn.first.here _ _ c.code_at-code.ensures c.width-w.ensures (omega (arith, w.if-w-ne0.true)) (order_of a.o) a.s.now l.at l.out _ (row-ready a.d.now (order_of a.o) a.s.now m.out a.k a.start m.at a.left l.out l.p l.at l.j l.invariant c.loop-j-test.true) w.turn_scalar.ensures)
+          (scalar-done a.d.now l.p turn.first.here _ _ c.code_at-code.ensures c.width-w.ensures (omega (arith, w.if-w-ne0.true)) (order_of a.o) a.s.now l.at l.out _ (row-ready a.d.now (order_of a.o) a.s.now m.out a.k a.start m.at a.left l.out l.p l.at l.counter l.invariant c.loop-2-test.true) w.turn_scalar.ensures)
       | turn_rows-else-w-ne0 w ↦ turned-at _ a.s.now l.out _ _ _ _ w.out-is w.at-is w.turn_value-at.ensures
     ]) in
-    rw c.size_at-p.ensures.eq (row_next a.d.now (order_of a.o) a.s.now m.out a.k a.start m.at a.left l.out l.p l.at l.j l.invariant c.loop-j-test.true _ _ done)
+    rw c.size_at-p.ensures.eq (row_next a.d.now (order_of a.o) a.s.now m.out a.k a.start m.at a.left l.out l.p l.at l.counter l.invariant c.loop-2-test.true _ _ done)
 
-pub turn_rows-overflow_add-i : goal.turn_rows-overflow_add-i
-turn_rows-overflow_add-i t c = omega (arith, c.loop-i-test.true)
-
-pub turn_rows-loop-i-smaller : goal.turn_rows-loop-i-smaller
-turn_rows-loop-i-smaller t c = omega (arith, c.loop-i-test.true)
-
-pub turn_rows-loop-i-preserved : goal.turn_rows-loop-i-preserved
-turn_rows-loop-i-preserved t c =
+pub turn_rows-loop-preserved : goal.turn_rows-loop-preserved
+turn_rows-loop-preserved t c =
     let a = c.args in
-    let m = c.loop-i in
-    let l = c.loop-j in
-    repeat-next (λ q. walk_all (order_of a.o) (types_at a.d.now a.k a.start) a.s.now q) a.s.now a.out.now a.n a.from m.out m.at m.i m.invariant c.loop-i-test.true _ _ (row-end a.d.now (order_of a.o) a.s.now m.out a.k a.start m.at a.left l.out l.p l.at l.j l.invariant c.loop-j-test.false)
+    let m = c.loop in
+    let l = c.loop-2 in
+    repeat-next (λ q. walk_all (order_of a.o) (types_at a.d.now a.k a.start) a.s.now q) a.s.now a.out.now a.n a.from m.out m.at m.counter m.invariant c.loop-test.true _ _ (row-end a.d.now (order_of a.o) a.s.now m.out a.k a.start m.at a.left l.out l.p l.at l.counter l.invariant c.loop-2-test.false)
 
 pub turn_rows-shape_of-out : goal.turn_rows-shape_of-out
-turn_rows-shape_of-out t c = c.loop-i.invariant.left.long
+turn_rows-shape_of-out t c = c.loop.invariant.left.long
 
 pub turn_rows-returns : goal.turn_rows-returns
 turn_rows-returns t c =
     let a = c.args in
-    let m = c.loop-i in
-    repeat-end (λ q. walk_all (order_of a.o) (types_at a.d.now a.k a.start) a.s.now q) a.s.now a.out.now a.n a.from m.out m.at m.i m.invariant c.loop-i-test.false
+    let m = c.loop in
+    repeat-end (λ q. walk_all (order_of a.o) (types_at a.d.now a.k a.start) a.s.now q) a.s.now a.out.now a.n a.from m.out m.at m.counter m.invariant c.loop-test.false
 
 pub turn_value-code_at-requires : goal.turn_value-code_at-requires
 turn_value-code_at-requires t c = let a = c.args in header-room a.d.now a.p c.requires.type_stands.here
