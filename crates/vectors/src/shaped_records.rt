@@ -1,15 +1,84 @@
 // Records in a reader's shape: a line for each, with number, input and place, and whether the output holds what it should.
-use super::cases::{Cases, show_cases};
-use super::show::{say, show_answer};
+use super::show::{line, show_answer};
 use std::io;
+
+// The rig of document 01's P11, a temperature and an identifier, and its reader of the identifier alone.
+const RIG: &[u8] = b"\x00\x14\x00\x50\x00\x02\x00\x06\x00\x02\x01t\x00\x08\x00\x07\x02id\x00";
+
+const READER: &[u8] = b"\x00\x0E\x00\x50\x00\x01\x00\x08\x00\x07\x02id\x00";
+
+// What the output holds after a refusal: what it held before.
+const KEPT: &[u8] = b"\xEE\xEE\xEE\xEE\xEE\xEE";
+
+// What the shop lost records over: rigs, with data and with what the output should hold then.
+const OLD_FAULTS: [(&str, &[u8], &[u8], &[u8]); 5] = [
+    (
+        "the identifier alone",
+        READER,
+        b"\x00\x00\x00\x09",
+        b"\x00\x00\x00\x09\xEE\xEE",
+    ),
+    (
+        "temperature ahead of it (P11)",
+        RIG,
+        b"\x00\x19\x00\x00\x00\x09",
+        b"\x00\x00\x00\x09\xEE\xEE",
+    ),
+    (
+        "the two in the other order",
+        b"\x00\x14\x00\x50\x00\x02\x00\x08\x00\x07\x02id\x00\x00\x06\x00\x02\x01t",
+        b"\x00\x00\x00\x09\x00\x19",
+        b"\x00\x00\x00\x09\xEE\xEE",
+    ),
+    (
+        "the reserved byte set",
+        b"\x00\x14\x40\x50\x00\x02\x00\x06\x40\x02\x01t\x00\x08\x40\x07\x02id\x00",
+        b"\x00\x19\x00\x00\x00\x09",
+        b"\x00\x00\x00\x09\xEE\xEE",
+    ),
+    ("a cut record", RIG, b"\x00\x19\x00\x00\x00", KEPT),
+];
+
+// Each way for a reader of P11's data to be refused.
+const REFUSED_READERS: [(&str, &[u8]); 4] = [
+    (
+        "a signed identifier (P12)",
+        b"\x00\x0E\x00\x50\x00\x01\x00\x08\x00\x03\x02id\x00",
+    ),
+    (
+        "another name (P12)",
+        b"\x00\x0E\x00\x50\x00\x01\x00\x08\x00\x07\x02no\x00",
+    ),
+    ("a reader that is no cluster", b"\x00\x08\x00\x07\x02id\x00"),
+    (
+        "a reader's member without a name",
+        b"\x00\x12\x00\x50\x00\x02\x00\x08\x00\x07\x02id\x00\x00\x04\x00\x02",
+    ),
+];
+
+// Each way for a rig to be refused, with data.
+const REFUSED_RIGS: [(&str, &[u8], &[u8]); 3] = [
+    (
+        "a rig that is no cluster",
+        b"\x00\x08\x00\x07\x02id\x00",
+        b"\x00\x00\x00\x09",
+    ),
+    (
+        "two identifiers",
+        b"\x00\x16\x00\x50\x00\x02\x00\x08\x00\x07\x02id\x00\x00\x08\x00\x07\x02id\x00",
+        b"\x00\x00\x00\x09\x00\x00\x00\x0E",
+    ),
+    (
+        "an identifier of eight bytes",
+        b"\x00\x0E\x00\x50\x00\x01\x00\x08\x00\x08\x02id\x00",
+        b"\x00\x00\x00\x00\x00\x00\x00\x09",
+    ),
+];
 
 // Says whether the output is as it should be.
 pub fn show_output(rt: &impl Print, out: &[u8], wanted: &[u8]) -> io::Result<()> {
-    if out == wanted {
-        say(rt, b"; output as it should be")
-    } else {
-        say(rt, b"; output not as it should be")
-    }
+    let verb = if out == wanted { "as" } else { "not as" };
+    print!(rt; "; output {verb} it should be")
 }
 
 // What is said of the data s of the rig w in the shape of the reader r, into six bytes of 238; `wanted` is what they should hold then.
@@ -19,76 +88,30 @@ fn show_record(rt: &impl Print, w: &[u8], r: &[u8], s: &[u8], wanted: &[u8]) -> 
     show_output(rt, &out, wanted)
 }
 
-// The rig of document 01's P11, a temperature and an identifier, with data, read by the reader r of one member.
-pub fn show_rig(rt: &impl Print, r: &[u8], s: &[u8], wanted: &[u8]) -> io::Result<()> {
-    show_record(
-        rt,
-        b"\x00\x14\x00\x50\x00\x02\x00\x06\x00\x02\x01t\x00\x08\x00\x07\x02id\x00",
-        r,
-        s,
-        wanted,
-    )
-}
-
-// The rig w with data, read by P11's reader of the identifier.
-pub fn show_identifier(rt: &impl Print, w: &[u8], s: &[u8], wanted: &[u8]) -> io::Result<()> {
-    show_record(
-        rt,
-        w,
-        b"\x00\x0E\x00\x50\x00\x01\x00\x08\x00\x07\x02id\x00",
-        s,
-        wanted,
-    )
-}
-
-// What the shop lost records over.
-pub fn old_faults(rt: &impl Print) -> io::Result<()> {
-    show_cases(
-        rt,
-        Cases::Rigs,
-        b"the identifier alone|\x00\x0E\x00\x50\x00\x01\x00\x08\x00\x07\x02id\x00|\x00\x00\x00\x09|\x00\x00\x00\x09\xEE\xEE|\
-        temperature ahead of it (P11)|\
-            \x00\x14\x00\x50\x00\x02\x00\x06\x00\x02\x01t\x00\x08\x00\x07\x02id\x00|\x00\x19\x00\x00\x00\x09|\x00\x00\x00\x09\xEE\xEE|\
-        the two in the other order|\
-            \x00\x14\x00\x50\x00\x02\x00\x08\x00\x07\x02id\x00\x00\x06\x00\x02\x01t|\x00\x00\x00\x09\x00\x19|\x00\x00\x00\x09\xEE\xEE|\
-        the reserved byte set|\
-            \x00\x14\x40\x50\x00\x02\x00\x06\x40\x02\x01t\x00\x08\x40\x07\x02id\x00|\x00\x19\x00\x00\x00\x09|\x00\x00\x00\x09\xEE\xEE|\
-        a cut record|\
-            \x00\x14\x00\x50\x00\x02\x00\x06\x00\x02\x01t\x00\x08\x00\x07\x02id\x00|\x00\x19\x00\x00\x00|\xEE\xEE\xEE\xEE\xEE\xEE|",
-    )
-}
-
-// Each way to be refused.
-pub fn refusals(rt: &impl Print) -> io::Result<()> {
-    show_cases(
-        rt,
-        Cases::Readers,
-        b"a signed identifier (P12)|\x00\x0E\x00\x50\x00\x01\x00\x08\x00\x03\x02id\x00|\x00\x19\x00\x00\x00\x09|\xEE\xEE\xEE\xEE\xEE\xEE|\
-        another name (P12)|\x00\x0E\x00\x50\x00\x01\x00\x08\x00\x07\x02no\x00|\x00\x19\x00\x00\x00\x09|\xEE\xEE\xEE\xEE\xEE\xEE|\
-        a reader that is no cluster|\x00\x08\x00\x07\x02id\x00|\x00\x19\x00\x00\x00\x09|\xEE\xEE\xEE\xEE\xEE\xEE|\
-        a reader's member without a name|\
-            \x00\x12\x00\x50\x00\x02\x00\x08\x00\x07\x02id\x00\x00\x04\x00\x02|\x00\x19\x00\x00\x00\x09|\xEE\xEE\xEE\xEE\xEE\xEE|",
-    )?;
-    show_cases(
-        rt,
-        Cases::Rigs,
-        b"a rig that is no cluster|\x00\x08\x00\x07\x02id\x00|\x00\x00\x00\x09|\xEE\xEE\xEE\xEE\xEE\xEE|\
-        two identifiers|\
-            \x00\x16\x00\x50\x00\x02\x00\x08\x00\x07\x02id\x00\x00\x08\x00\x07\x02id\x00|\x00\x00\x00\x09\x00\x00\x00\x0E|\xEE\xEE\xEE\xEE\xEE\xEE|\
-        an identifier of eight bytes|\
-            \x00\x0E\x00\x50\x00\x01\x00\x08\x00\x08\x02id\x00|\x00\x00\x00\x00\x00\x00\x00\x09|\xEE\xEE\xEE\xEE\xEE\xEE|",
-    )
+pub fn worked(rt: &impl Print) -> io::Result<()> {
+    for (name, w, s, wanted) in OLD_FAULTS {
+        line(rt, name, || show_record(rt, w, READER, s, wanted))?;
+    }
+    for (name, r) in REFUSED_READERS {
+        line(
+            rt,
+            name,
+            || show_record(rt, RIG, r, b"\x00\x19\x00\x00\x00\x09", KEPT),
+        )?;
+    }
+    for (name, w, s) in REFUSED_RIGS {
+        line(rt, name, || show_record(rt, w, READER, s, KEPT))?;
+    }
+    line(rt, "the lamp rig's FF", || show_lamp(rt))
 }
 
 // The lamp rig's FF for true is handed on as it came.
-pub fn lamp(rt: &impl Print) -> io::Result<()> {
-    say(rt, b"the lamp rig's FF:")?;
+fn show_lamp(rt: &impl Print) -> io::Result<()> {
     show_record(
         rt,
         b"\x00\x16\x00\x50\x00\x02\x00\x08\x00\x07\x02id\x00\x00\x08\x00\x21\x03lit",
         b"\x00\x0E\x00\x50\x00\x01\x00\x08\x00\x21\x03lit",
         b"\x00\x00\x00\x09\xFF",
         b"\xFF\xEE\xEE\xEE\xEE\xEE",
-    )?;
-    say(rt, b"\n")
+    )
 }
