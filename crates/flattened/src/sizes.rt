@@ -7,7 +7,7 @@ ghost use Rattle.flattened.specs.inner.Sizes.{element_cap, capped_sizes};
 
 use super::cursor::{Cursor, Skip};
 use super::limits::{ELEMENT_CAP, LENGTH_LIMIT};
-use super::order::{Order, number_4};
+use super::order::{Number, Order};
 
 // The number of elements, cut at `ELEMENT_CAP`, and the cursor past the size words; or a refusal's number and place.
 #[derive(Clone, Copy)]
@@ -41,7 +41,7 @@ pub fn size_words(s: &[u8], from: Cursor, dims: usize, o: Order) -> Sizes
     let mut n = 1;
     let mut i = 0;
     while i < dims {
-        let size = number_4(s, at + 4 * i, o) as usize;
+        let size = u32::read(s, at + 4 * i, o) as usize;
         if LENGTH_LIMIT <= size {
             return Sizes::Refused(22, at);
         }
