@@ -17,14 +17,14 @@ pub code_at-requires : goal.code_at-requires
 code_at-requires c = header-room c.args.d.now c.args.p c.requires
 
 pub be16-n-requires : goal.be16-n-requires
-unfolding kind_named has_count
+unfolding has_count
 be16-n-requires c = let room = word_room c.args.d.now c.args.p c.requires enumeration (known _ kinds.Enumeration (kind_of c.code_at.result) c.kind_of-k.ensures c.in-Enumeration.is ∙ ap kind_of c.code_at.ensures) refl in omega (arith, c.body_at-body.ensures)
 
 pub overflow_add-result : goal.overflow_add-result
 overflow_add-result c = omega (arith, header-room c.args.d.now c.args.p c.requires, c.requires.small, c.body_at-body.ensures)
 
 pub be16-n-requires-in-Quantity : goal.be16-n-requires-in-Quantity
-unfolding kind_named has_count
+unfolding has_count
 be16-n-requires-in-Quantity c = let room = word_room c.args.d.now c.args.p c.requires quantity (known _ kinds.Quantity (kind_of c.code_at.result) c.kind_of-k.ensures c.in-Quantity.is ∙ ap kind_of c.code_at.ensures) refl in omega (arith, c.body_at-body.ensures)
 
 pub overflow_add-result-in-Quantity : goal.overflow_add-result-in-Quantity
@@ -37,7 +37,7 @@ pub overflow_add-body : goal.overflow_add-body
 overflow_add-body c = omega (arith, header-room c.args.d.now c.args.p c.requires, c.requires.small, c.body_at-body.ensures)
 
 pub be16-n-requires-in-Array : goal.be16-n-requires-in-Array
-unfolding kind_named has_count
+unfolding has_count
 be16-n-requires-in-Array c = let room = word_room c.args.d.now c.args.p c.requires array (known _ kinds.Array (kind_of c.code_at.result) c.kind_of-k.ensures c.in-Array.is ∙ ap kind_of c.code_at.ensures) refl in omega (arith, c.body_at-body.ensures)
 
 pub overflow_add-result-in-Array : goal.overflow_add-result-in-Array
@@ -47,7 +47,7 @@ pub overflow_add-result-in-Array-2 : goal.overflow_add-result-in-Array-2
 overflow_add-result-in-Array-2 c = omega (arith, header-room c.args.d.now c.args.p c.requires, c.requires.small, c.body_at-body.ensures, c.be16-n-in-Array.ensures.below)
 
 pub be16-n-requires-in-Cluster : goal.be16-n-requires-in-Cluster
-unfolding kind_named has_count
+unfolding has_count
 be16-n-requires-in-Cluster c = let room = word_room c.args.d.now c.args.p c.requires cluster (known _ kinds.Cluster (kind_of c.code_at.result) c.kind_of-k.ensures c.in-Cluster.is ∙ ap kind_of c.code_at.ensures) refl in omega (arith, c.body_at-body.ensures)
 
 pub overflow_add-result-in-Cluster : goal.overflow_add-result-in-Cluster
@@ -57,33 +57,33 @@ pub overflow_add-result-in-Stamp : goal.overflow_add-result-in-Stamp
 overflow_add-result-in-Stamp c = omega (arith, header-room c.args.d.now c.args.p c.requires, c.requires.small, c.body_at-body.ensures)
 
 pub returns-in-Plain : goal.returns-in-Plain
-unfolding kind_named inside_by
+unfolding inside_by
 returns-in-Plain c = c.leaf.ensures ∙ (ap (λ x. leaf_inside x) c.body_at-body.ensures ∙ inside_is c.args.d.now c.args.p c.requires plain (known _ kinds.Plain (kind_of c.code_at.result) c.kind_of-k.ensures c.in-Plain.is ∙ ap kind_of c.code_at.ensures))
 
 pub returns-in-Enumeration : goal.returns-in-Enumeration
-unfolding kind_named inside_by
+unfolding inside_by
 returns-in-Enumeration c = (λ i. record { at = c.body_at-body.ensures i + 2; count = (c.be16-n.ensures.eq ∙ ap (λ x. be c.args.d.now x 2) c.body_at-body.ensures) i; children = 0 }) ∙ inside_is c.args.d.now c.args.p c.requires enumeration (known _ kinds.Enumeration (kind_of c.code_at.result) c.kind_of-k.ensures c.in-Enumeration.is ∙ ap kind_of c.code_at.ensures)
 
 pub returns-in-Quantity : goal.returns-in-Quantity
-unfolding kind_named inside_by
+unfolding inside_by
 returns-in-Quantity c = (λ i. record { at = c.body_at-body.ensures i + 2 + 4 * (c.be16-n-in-Quantity.ensures.eq ∙ ap (λ x. be c.args.d.now x 2) c.body_at-body.ensures) i; count = (c.be16-n-in-Quantity.ensures.eq ∙ ap (λ x. be c.args.d.now x 2) c.body_at-body.ensures) i; children = 0 }) ∙ inside_is c.args.d.now c.args.p c.requires quantity (known _ kinds.Quantity (kind_of c.code_at.result) c.kind_of-k.ensures c.in-Quantity.is ∙ ap kind_of c.code_at.ensures)
 
 pub returns-in-Text : goal.returns-in-Text
-unfolding kind_named inside_by
+unfolding inside_by
 returns-in-Text c = c.leaf-in-Text.ensures ∙ (ap (λ x. leaf_inside (x + 4)) c.body_at-body.ensures ∙ inside_is c.args.d.now c.args.p c.requires string (known _ kinds.Text (kind_of c.code_at.result) c.kind_of-k.ensures c.in-Text.is ∙ ap kind_of c.code_at.ensures))
 
 pub returns-in-Array : goal.returns-in-Array
-unfolding kind_named inside_by
+unfolding inside_by
 returns-in-Array c = (λ i. record { at = c.body_at-body.ensures i + 2 + 4 * (c.be16-n-in-Array.ensures.eq ∙ ap (λ x. be c.args.d.now x 2) c.body_at-body.ensures) i; count = (c.be16-n-in-Array.ensures.eq ∙ ap (λ x. be c.args.d.now x 2) c.body_at-body.ensures) i; children = 1 }) ∙ inside_is c.args.d.now c.args.p c.requires array (known _ kinds.Array (kind_of c.code_at.result) c.kind_of-k.ensures c.in-Array.is ∙ ap kind_of c.code_at.ensures)
 
 pub returns-in-Cluster : goal.returns-in-Cluster
-unfolding kind_named inside_by
+unfolding inside_by
 returns-in-Cluster c = (λ i. record { at = c.body_at-body.ensures i + 2; count = (c.be16-n-in-Cluster.ensures.eq ∙ ap (λ x. be c.args.d.now x 2) c.body_at-body.ensures) i; children = (c.be16-n-in-Cluster.ensures.eq ∙ ap (λ x. be c.args.d.now x 2) c.body_at-body.ensures) i }) ∙ inside_is c.args.d.now c.args.p c.requires cluster (known _ kinds.Cluster (kind_of c.code_at.result) c.kind_of-k.ensures c.in-Cluster.is ∙ ap kind_of c.code_at.ensures)
 
 pub returns-in-Stamp : goal.returns-in-Stamp
-unfolding kind_named inside_by
+unfolding inside_by
 returns-in-Stamp c = (λ i. record { at = c.body_at-body.ensures i + 2; count = 0; children = 1 }) ∙ inside_is c.args.d.now c.args.p c.requires stamp (known _ kinds.Stamp (kind_of c.code_at.result) c.kind_of-k.ensures c.in-Stamp.is ∙ ap kind_of c.code_at.ensures)
 
 pub returns-in-Unknown : goal.returns-in-Unknown
-unfolding kind_named inside_by
+unfolding inside_by
 returns-in-Unknown c = c.leaf-in-Unknown.ensures ∙ (ap (λ x. leaf_inside x) c.body_at-body.ensures ∙ inside_is c.args.d.now c.args.p c.requires unknown (known _ kinds.Unknown (kind_of c.code_at.result) c.kind_of-k.ensures c.in-Unknown.is ∙ ap kind_of c.code_at.ensures))

@@ -12,7 +12,6 @@ pub code_at-requires : goal.code_at-requires
 code_at-requires c = header-room c.args.d.now 0 c.requires
 
 pub returns-in-Cluster : goal.returns-in-Cluster
-unfolding kind_named
 returns-in-Cluster c =
     cluster-so c.args.d.now c.requires
     (known _ kinds.Cluster (kind_of c.code_at.result) c.kind_of-kind.ensures c.in-Cluster.is ∙ ap kind_of c.code_at.ensures)

@@ -115,14 +115,12 @@ pub turn_value-code_at-requires : goal.turn_value-code_at-requires
 turn_value-code_at-requires t c = let a = c.args in header-room a.d.now a.p c.requires.type_stands.here
 
 pub turn_value-turn_text-requires : goal.turn_value-turn_text-requires
-unfolding kind_named
 turn_value-turn_text-requires t c =
     let a = c.args in
     let kind = known _ kinds.Text (kind_of c.code_at.result) c.kind_of-k.ensures c.in-Text.is ∙ ap kind_of c.code_at.ensures in
     turnable-as _ _ a.s.now a.out.now a.at (value-text a.d.now a.p c.requires.type_stands.here (order_of a.o) a.s.now a.at kind) c.requires.turnable
 
 pub turn_value-returns-in-Text : goal.turn_value-returns-in-Text
-unfolding kind_named
 turn_value-returns-in-Text t c =
     let a = c.args in
     let kind = known _ kinds.Text (kind_of c.code_at.result) c.kind_of-k.ensures c.in-Text.is ∙ ap kind_of c.code_at.ensures in
@@ -132,7 +130,6 @@ pub turn_value-inside_of-inside-requires : goal.turn_value-inside_of-inside-requ
 turn_value-inside_of-inside-requires t c = c.requires.type_stands.here
 
 pub turn_value-turn_sizes-n-requires : goal.turn_value-turn_sizes-n-requires
-unfolding kind_named
 turn_value-turn_sizes-n-requires t c =
     let a = c.args in
     let kind = known _ kinds.Array (kind_of c.code_at.result) c.kind_of-k.ensures c.in-Array.is ∙ ap kind_of c.code_at.ensures in
@@ -142,7 +139,6 @@ turn_value-turn_sizes-n-requires t c =
     record { at_value = array-sizes (order_of a.o) i.count (type_at a.d.now i.at) a.s.now a.at ready.reads; dims_le_dimension_limit = parts.most; room = c.requires.turnable.here }
 
 pub turn_value-overflow_mul-inside : goal.turn_value-overflow_mul-inside
-unfolding kind_named
 turn_value-overflow_mul-inside t c =
     let a = c.args in
     let kind = known _ kinds.Array (kind_of c.code_at.result) c.kind_of-k.ensures c.in-Array.is ∙ ap kind_of c.code_at.ensures in
@@ -152,7 +148,6 @@ turn_value-overflow_mul-inside t c =
     omega (arith, parts.most)
 
 pub turn_value-overflow_add-at : goal.turn_value-overflow_add-at
-unfolding kind_named
 turn_value-overflow_add-at t c =
     let a = c.args in
     let kind = known _ kinds.Array (kind_of c.code_at.result) c.kind_of-k.ensures c.in-Array.is ∙ ap kind_of c.code_at.ensures in
@@ -166,7 +161,6 @@ pub turn_value-overflow_sub-left : goal.turn_value-overflow_sub-left
 turn_value-overflow_sub-left t c = let a = c.args in type-deep a.d.now a.p a.left c.requires.type_stands
 
 pub turn_value-turn_values-requires : goal.turn_value-turn_values-requires
-unfolding kind_named
 turn_value-turn_values-requires t c =
     let a = c.args in
     let kind = known _ kinds.Array (kind_of c.code_at.result) c.kind_of-k.ensures c.in-Array.is ∙ ap kind_of c.code_at.ensures in
@@ -177,7 +171,6 @@ turn_value-turn_values-requires t c =
     (omega (arith, type-deep a.d.now a.p a.left c.requires.type_stands, c.decreases), (parts.element, rest.ready))
 
 pub turn_value-returns-in-Array : goal.turn_value-returns-in-Array
-unfolding kind_named
 turn_value-returns-in-Array t c =
     let a = c.args in
     let kind = known _ kinds.Array (kind_of c.code_at.result) c.kind_of-k.ensures c.in-Array.is ∙ ap kind_of c.code_at.ensures in
@@ -235,14 +228,12 @@ turn_values-returns-then-w-ne0 t c =
     scalars-done a.d.now a.p c.requires.type_stands.here _ _ c.code_at-code.ensures c.width-w.ensures (omega (arith, c.if-w-ne0.true)) (order_of a.o) a.s.now a.n a.from a.out.now _ c.requires.turnable c.turn_scalars.ensures
 
 pub turn_values-turn_texts-requires : goal.turn_values-turn_texts-requires
-unfolding kind_named
 turn_values-turn_texts-requires t c =
     let a = c.args in
     let kind = known _ kinds.Text (kind_of c.code_at-code.result) c.kind_of-k.ensures c.in-Text.is ∙ ap kind_of c.code_at-code.ensures in
     turnable-as _ _ a.s.now a.out.now a.from (sym (walk-texts a.d.now a.p a.left c.requires.type_stands (order_of a.o) a.s.now a.n a.from kind)) c.requires.turnable
 
 pub turn_values-returns-in-Text : goal.turn_values-returns-in-Text
-unfolding kind_named
 turn_values-returns-in-Text t c =
     let a = c.args in
     let kind = known _ kinds.Text (kind_of c.code_at-code.result) c.kind_of-k.ensures c.in-Text.is ∙ ap kind_of c.code_at-code.ensures in
