@@ -2,6 +2,7 @@
 // body then, of a list the numbers lent, and of a book as a whole whether its bytes are those they should be.
 use super::shaped_records::show_output;
 use super::show::{line, show_answer};
+use kerbcanopy::book::{kc_store_add, kc_store_check, kc_store_find, kc_store_list};
 use std::io;
 
 // A rig whose descriptor is the reader's shape: 16 bytes, and 4 of data.
@@ -12,25 +13,21 @@ const WARM: &[u8] = b"\x00\x16\x00\x50\x00\x02\x00\x06\x00\x02\x01t\x00\x0A\x00\
 
 // Adds the record of d with the data x.
 fn add(rt: &impl Print, name: &str, book: &mut [u8], d: &[u8], x: &[u8]) -> io::Result<()> {
-    line(
-        rt,
-        name,
-        || show_answer(rt, kerbcanopy::book::kc_store_add(book, d, x)),
-    )
+    line(rt, name, || show_answer(rt, kc_store_add(book, d, x)))
 }
 
 fn show_find(rt: &impl Print, name: &str, book: &[u8], identifier: u32) -> io::Result<()> {
     line(rt, name, || {
-        let part = kerbcanopy::book::kc_store_find(book, identifier);
+        let part = kc_store_find(book, identifier);
         show_answer(rt, part.answer)?;
         print!(rt; " {} {}", part.start, part.length)
     })
 }
 
-// Lists into the numbers lent.
+// Lists into the numbers lent, and prints them all.
 fn show_list(rt: &impl Print, name: &str, book: &[u8], identifiers: &mut [u32]) -> io::Result<()> {
     line(rt, name, || {
-        show_answer(rt, kerbcanopy::book::kc_store_list(book, identifiers))?;
+        show_answer(rt, kc_store_list(book, identifiers))?;
         for identifier in identifiers {
             print!(rt; " {identifier}")?;
         }
@@ -74,7 +71,7 @@ fn three(rt: &impl Print) -> io::Result<()> {
 
 // The book after that.
 fn show_whole(rt: &impl Print, book: &[u8]) -> io::Result<()> {
-    show_answer(rt, kerbcanopy::book::kc_store_check(book))?;
+    show_answer(rt, kc_store_check(book))?;
     show_output(
         rt,
         book,
@@ -103,7 +100,7 @@ fn narrow(rt: &impl Print) -> io::Result<()> {
 }
 
 // Bytes that are a book, and what is wrong with others. The entry of 9 in a book of two says 36, 16 and 4.
-const JUDGED: [(&str, &[u8]); 9] = [
+static JUDGED: [(&str, &[u8]); 9] = [
     ("three bytes", b"\x00\x00\x00"),
     ("no entries", b"\x00\x00\x00\x00"),
     ("two entries that don't fit", b"\x00\x02\x00\x00"),
@@ -144,15 +141,12 @@ const JUDGED: [(&str, &[u8]); 9] = [
     ),
 ];
 
+// A line for each of these.
 pub fn worked(rt: &impl Print) -> io::Result<()> {
     three(rt)?;
     narrow(rt)?;
-    for (name, s) in JUDGED {
-        line(
-            rt,
-            name,
-            || show_answer(rt, kerbcanopy::book::kc_store_check(s)),
-        )?;
+    for (name, s) in &JUDGED {
+        line(rt, name, || show_answer(rt, kc_store_check(s)))?;
     }
     Ok(())
 }

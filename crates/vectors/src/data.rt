@@ -7,7 +7,8 @@ pub fn show_data(rt: &impl Print, d: &[u8], s: &[u8]) -> io::Result<()> {
     show_answer(rt, kerbcanopy::kc_check_data(d, s))
 }
 
-const WORKED: [(&str, &[u8], &[u8]); 8] = [
+// What 004 works out: a descriptor, and data.
+static WORKED: [(&str, &[u8], &[u8]); 8] = [
     ("-19 (004)", b"\x00\x04\x00\x03", b"\xFF\xFF\xFF\xED"),
     (
         "1/4 (004)",
@@ -46,7 +47,8 @@ const WORKED: [(&str, &[u8], &[u8]); 8] = [
     ),
 ];
 
-const SIZES: [(&str, &[u8], &[u8]); 5] = [
+// Size words.
+static SIZES: [(&str, &[u8], &[u8]); 5] = [
     (
         "sizes 7FFFFFFF then 0 (01)",
         b"\x00\x12\x00\x40\x00\x02\xFF\xFF\xFF\xFF\xFF\xFF\xFF\xFF\x00\x04\x00\x21",
@@ -74,7 +76,8 @@ const SIZES: [(&str, &[u8], &[u8]); 5] = [
     ),
 ];
 
-const EDGES: [(&str, &[u8], &[u8]); 8] = [
+// What else is at an edge.
+static EDGES: [(&str, &[u8], &[u8]); 8] = [
     (
         "an enumeration too high, first of 2^31 - 1",
         b"\x00\x14\x00\x40\x00\x01\xFF\xFF\xFF\xFF\x00\x0A\x00\x15\x00\x02\x01a\x01b",
@@ -101,6 +104,7 @@ const EDGES: [(&str, &[u8], &[u8]); 8] = [
     ("a code that is not carried", b"\x00\x04\x00\x00", b"\x01"),
 ];
 
+// A line for each of these.
 pub fn worked(rt: &impl Print) -> io::Result<()> {
     for (name, d, s) in WORKED.iter().chain(&SIZES).chain(&EDGES) {
         line(rt, name, || show_data(rt, d, s))?;

@@ -16,7 +16,7 @@ use show::{line, show};
 use std::io;
 
 // Document 01, "Checked by hand": the rows not marked P. The first stands in 002 and 004 too.
-const HAND_CHECKED: [(&str, &[u8]); 3] = [
+static HAND_CHECKED: [(&str, &[u8]); 3] = [
     (
         "m/s, double (01, 002, 004)",
         b"\x00\x0E\x00\x1A\x00\x02\x00\x02\xFF\xFF\x00\x03\x00\x01",
@@ -26,7 +26,7 @@ const HAND_CHECKED: [(&str, &[u8]); 3] = [
 ];
 
 // The places of document 02's CR 3, of a descriptor inside another and, but for the first, before a third.
-const POINTED_AT: [(&str, &[u8]); 8] = [
+static POINTED_AT: [(&str, &[u8]); 8] = [
     (
         "array in array (P7)",
         b"\x00\x18\x00\x40\x00\x01\xFF\xFF\xFF\xFF\x00\x0E\x00\x40\x00\x01\xFF\xFF\xFF\xFF\x00\x04\x00\x0A",
@@ -66,7 +66,7 @@ fn main(rt: HostRuntime) -> io::Result<()> {
     for (name, d) in HAND_CHECKED.iter().chain(&POINTED_AT) {
         line(rt, name, || show(rt, d))?;
     }
-    numbers::numbers(rt)?;
+    numbers::worked(rt)?;
     sources::worked(rt)?;
     data::worked(rt)?;
     shaped_records::worked(rt)?;

@@ -2,7 +2,7 @@
 use super::show::{line, show};
 use std::io;
 
-const NUMBERS: [(&str, &[u8]); 17] = [
+static NUMBERS: [(&str, &[u8]); 17] = [
     ("8-bit integer", b"\x00\x04\x00\x01"),
     ("16-bit integer", b"\x00\x04\x00\x02"),
     ("32-bit integer", b"\x00\x04\x00\x03"),
@@ -22,8 +22,8 @@ const NUMBERS: [(&str, &[u8]); 17] = [
     ("string", b"\x00\x08\x00\x30\xFF\xFF\xFF\xFF"),
 ];
 
-pub fn numbers(rt: &impl Print) -> io::Result<()> {
-    for (name, d) in NUMBERS {
+pub fn worked(rt: &impl Print) -> io::Result<()> {
+    for (name, d) in &NUMBERS {
         line(rt, name, || show(rt, d))?;
     }
     Ok(())

@@ -2,45 +2,39 @@
 use super::show::{line, show_answer};
 use std::io;
 
-// The rig of document 01's P11, a temperature and an identifier, and its reader of the identifier alone.
+// The rig of document 01's P11, a temperature and an identifier, a record of it, and the reader of the identifier alone.
 const RIG: &[u8] = b"\x00\x14\x00\x50\x00\x02\x00\x06\x00\x02\x01t\x00\x08\x00\x07\x02id\x00";
+
+const RECORD: &[u8] = b"\x00\x19\x00\x00\x00\x09";
 
 const READER: &[u8] = b"\x00\x0E\x00\x50\x00\x01\x00\x08\x00\x07\x02id\x00";
 
-// What the output holds after a refusal: what it held before.
+// What the output should hold: the identifier 9 ahead of what was there, and after a refusal what was there.
+const NINE: &[u8] = b"\x00\x00\x00\x09\xEE\xEE";
+
 const KEPT: &[u8] = b"\xEE\xEE\xEE\xEE\xEE\xEE";
 
-// What the shop lost records over: rigs, with data and with what the output should hold then.
-const OLD_FAULTS: [(&str, &[u8], &[u8], &[u8]); 5] = [
-    (
-        "the identifier alone",
-        READER,
-        b"\x00\x00\x00\x09",
-        b"\x00\x00\x00\x09\xEE\xEE",
-    ),
-    (
-        "temperature ahead of it (P11)",
-        RIG,
-        b"\x00\x19\x00\x00\x00\x09",
-        b"\x00\x00\x00\x09\xEE\xEE",
-    ),
+// What the shop lost records over: rigs, with data and what the output should hold then.
+static OLD_FAULTS: [(&str, &[u8], &[u8], &[u8]); 5] = [
+    ("the identifier alone", READER, b"\x00\x00\x00\x09", NINE),
+    ("temperature ahead of it (P11)", RIG, RECORD, NINE),
     (
         "the two in the other order",
         b"\x00\x14\x00\x50\x00\x02\x00\x08\x00\x07\x02id\x00\x00\x06\x00\x02\x01t",
         b"\x00\x00\x00\x09\x00\x19",
-        b"\x00\x00\x00\x09\xEE\xEE",
+        NINE,
     ),
     (
         "the reserved byte set",
         b"\x00\x14\x40\x50\x00\x02\x00\x06\x40\x02\x01t\x00\x08\x40\x07\x02id\x00",
-        b"\x00\x19\x00\x00\x00\x09",
-        b"\x00\x00\x00\x09\xEE\xEE",
+        RECORD,
+        NINE,
     ),
     ("a cut record", RIG, b"\x00\x19\x00\x00\x00", KEPT),
 ];
 
-// Each way for a reader of P11's data to be refused.
-const REFUSED_READERS: [(&str, &[u8]); 4] = [
+// Each way for a reader of that record to be refused.
+static REFUSED_READERS: [(&str, &[u8]); 4] = [
     (
         "a signed identifier (P12)",
         b"\x00\x0E\x00\x50\x00\x01\x00\x08\x00\x03\x02id\x00",
@@ -57,7 +51,7 @@ const REFUSED_READERS: [(&str, &[u8]); 4] = [
 ];
 
 // Each way for a rig to be refused, with data.
-const REFUSED_RIGS: [(&str, &[u8], &[u8]); 3] = [
+static REFUSED_RIGS: [(&str, &[u8], &[u8]); 3] = [
     (
         "a rig that is no cluster",
         b"\x00\x08\x00\x07\x02id\x00",
@@ -88,18 +82,15 @@ fn show_record(rt: &impl Print, w: &[u8], r: &[u8], s: &[u8], wanted: &[u8]) -> 
     show_output(rt, &out, wanted)
 }
 
+// A line for each of these, and for the lamp rig.
 pub fn worked(rt: &impl Print) -> io::Result<()> {
-    for (name, w, s, wanted) in OLD_FAULTS {
+    for (name, w, s, wanted) in &OLD_FAULTS {
         line(rt, name, || show_record(rt, w, READER, s, wanted))?;
     }
-    for (name, r) in REFUSED_READERS {
-        line(
-            rt,
-            name,
-            || show_record(rt, RIG, r, b"\x00\x19\x00\x00\x00\x09", KEPT),
-        )?;
+    for (name, r) in &REFUSED_READERS {
+        line(rt, name, || show_record(rt, RIG, r, RECORD, KEPT))?;
     }
-    for (name, w, s) in REFUSED_RIGS {
+    for (name, w, s) in &REFUSED_RIGS {
         line(rt, name, || show_record(rt, w, READER, s, KEPT))?;
     }
     line(rt, "the lamp rig's FF", || show_lamp(rt))

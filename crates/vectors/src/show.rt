@@ -47,8 +47,8 @@ fn show_normal(rt: &impl Print, d: &[u8], normal: &[u8]) -> io::Result<()> {
     print!(rt; "; normal form: {bytes} bytes, {equal}")
 }
 
-// What is said of the descriptor d. The rows that are used are those of a size: a descriptor's is never 0. The length of the normal form is
-// its answer's place.
+// What is said of the descriptor d. The rows that are used have a size that is not 0, as every descriptor has. The place that the answer
+// gives for the normal form is its length.
 pub fn show(rt: &impl Print, d: &[u8]) -> io::Result<()> {
     let checked = kerbcanopy::kc_check_descriptor(d);
     show_answer(rt, checked.answer)?;

@@ -3,7 +3,7 @@ use super::show::{line, show};
 use std::io;
 
 // 004 prints the strings of the first as characters. 002 says "12 bytes total" of the second; its own bytes say 14, and they are 14.
-const NESTED: [(&str, &[u8]); 6] = [
+static NESTED: [(&str, &[u8]); 6] = [
     (
         "am, fm, fm stereo (002, 004)",
         b"\x00\x16\x00\x15\x00\x03\x02am\x02fm\x09fm stereo",
@@ -33,7 +33,7 @@ const NESTED: [(&str, &[u8]); 6] = [
 
 // The entries of 002's descriptor lists, which document 01 does not read: as nested descriptors they are refused. The sizes of the
 // first three are those of the nested form and more than the bytes printed, so that they are inconsistent with themselves.
-const LISTED: [(&str, &[u8]); 6] = [
+static LISTED: [(&str, &[u8]); 6] = [
     (
         "array of doubles, of a list (002)",
         b"\x00\x0E\x00\x40\x00\x01\xFF\xFF\xFF\xFF",
@@ -57,6 +57,7 @@ const LISTED: [(&str, &[u8]); 6] = [
     ),
 ];
 
+// A line for each of these.
 pub fn worked(rt: &impl Print) -> io::Result<()> {
     for (name, d) in NESTED.iter().chain(&LISTED) {
         line(rt, name, || show(rt, d))?;

@@ -3,11 +3,12 @@ use super::data::show_data;
 use super::show::{line, show, show_answer};
 use std::io;
 
+// The stamp of 001.
 const STAMP: &[u8] =
     b"\x00\x1C\x00\x54\x00\x06\x00\x16\x00\x50\x00\x04\x00\x04\x00\x03\x00\x04\x00\x03\x00\x04\x00\x07\x00\x04\x00\x07";
 
 // 001 has the first three words of its own and says what follows; 004 prints four 0003, and its stamp is refused.
-const DESCRIPTORS: [(&str, &[u8]); 5] = [
+static DESCRIPTORS: [(&str, &[u8]); 5] = [
     ("time stamp (001)", STAMP),
     (
         "time stamp (004)",
@@ -24,7 +25,8 @@ const DESCRIPTORS: [(&str, &[u8]); 5] = [
     ("no part", b"\x00\x06\x00\x54\x00\x06"),
 ];
 
-const DATA: [(&str, &[u8]); 2] = [
+// Data of that stamp.
+static DATA: [(&str, &[u8]); 2] = [
     (
         "1904 and a half second",
         b"\x00\x00\x00\x00\x00\x00\x00\x00\x80\x00\x00\x00\x00\x00\x00\x00",
@@ -36,11 +38,11 @@ const DATA: [(&str, &[u8]); 2] = [
 ];
 
 // A stamp: the halves of its seconds, and the high half of its fraction, whose low half is 0.
-#[derive(Clone, Copy, Debug, PartialEq, Eq)]
+#[derive(Clone, Copy)]
 struct Stamp(i32, i32, u32);
 
 // A stamp, one that is taken from it, and the seconds of the difference.
-const DIFFERENCES: [(&str, Stamp, Stamp, i64); 5] = [
+static DIFFERENCES: [(&str, Stamp, Stamp, i64); 5] = [
     (
         "3.5 s less 1.25 s",
         Stamp(0, 3, 0x8000_0000),
@@ -79,18 +81,18 @@ fn show_difference(rt: &impl Print, stamp: Stamp, taken: Stamp, wanted: i64) -> 
     } else {
         "other seconds"
     };
-    let fraction = d.fraction;
-    print!(rt; " {seconds}, {fraction}")
+    print!(rt; " {seconds}, {}", d.fraction)
 }
 
+// A line for each of these.
 pub fn worked(rt: &impl Print) -> io::Result<()> {
-    for (name, d) in DESCRIPTORS {
+    for (name, d) in &DESCRIPTORS {
         line(rt, name, || show(rt, d))?;
     }
-    for (name, s) in DATA {
+    for (name, s) in &DATA {
         line(rt, name, || show_data(rt, STAMP, s))?;
     }
-    for (name, stamp, taken, wanted) in DIFFERENCES {
+    for &(name, stamp, taken, wanted) in &DIFFERENCES {
         line(rt, name, || show_difference(rt, stamp, taken, wanted))?;
     }
     Ok(())
