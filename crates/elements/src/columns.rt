@@ -78,7 +78,9 @@ fn column_around(
         return 0;
     }
     let mut next = from;
-    for count in 0..n {
+    // Counted by hand: as a `for` it takes a seventh longer.
+    let mut count = 0;
+    while count < n {
         let Some(end) = across(before, after, s, next, o) else {
             return count;
         };
@@ -87,8 +89,9 @@ fn column_around(
             return count;
         }
         next = end;
+        count += 1;
     }
-    n
+    count
 }
 
 // The same, of elements of `step` bytes each, which fit.
