@@ -18,39 +18,33 @@ pub common_row-common_width-w-requires : goal.common_row-common_width-w-requires
 common_row-common_width-w-requires t c =
     let a = c.args in
     let l = c.loop-i in
-    (omega (arith, c.decreases), (next-type a.d.now a.k l.p a.left l.i l.invariant.row c.loop-i-test.true).first)
+    (omega (arith, c.decreases), (next-type a.d.now a.k l.p a.left l._i l.invariant.row c.loop-i-test.true).first)
 
 pub common_row-size_at-p-requires : goal.common_row-size_at-p-requires
 common_row-size_at-p-requires t c =
     let a = c.args in
     let l = c.loop-i in
-    header-room a.d.now l.p (next-type a.d.now a.k l.p a.left l.i l.invariant.row c.loop-i-test.true).first.here
+    header-room a.d.now l.p (next-type a.d.now a.k l.p a.left l._i l.invariant.row c.loop-i-test.true).first.here
 
 pub common_row-overflow_add-p : goal.common_row-overflow_add-p
 common_row-overflow_add-p t c =
     let a = c.args in
     let l = c.loop-i in
-    let turn = next-type a.d.now a.k l.p a.left l.i l.invariant.row c.loop-i-test.true in
+    let turn = next-type a.d.now a.k l.p a.left l._i l.invariant.row c.loop-i-test.true in
     omega (arith, c.size_at-p.ensures.eq, turn.within, turn.rest.small)
-
-pub common_row-overflow_add-i : goal.common_row-overflow_add-i
-common_row-overflow_add-i t c = omega (arith, c.loop-i-test.true)
-
-pub common_row-loop-i-smaller : goal.common_row-loop-i-smaller
-common_row-loop-i-smaller t c = omega (arith, c.loop-i-test.true)
 
 pub common_row-loop-i-preserved : goal.common_row-loop-i-preserved
 common_row-loop-i-preserved t c =
     let a = c.args in
     let l = c.loop-i in
     rw c.size_at-p.ensures.eq
-    (common-next a.d.now a.start a.k a.before a.left l.p l.w l.i l.invariant c.loop-i-test.true _ c.common_width-w.ensures)
+    (common-next a.d.now a.start a.k a.before a.left l.p l.w l._i l.invariant c.loop-i-test.true _ c.common_width-w.ensures)
 
 pub common_row-returns : goal.common_row-returns
 common_row-returns t c =
     let a = c.args in
     let l = c.loop-i in
-    common-end a.d.now a.start a.k a.before a.left l.p l.w l.i l.invariant c.loop-i-test.false
+    common-end a.d.now a.start a.k a.before a.left l.p l.w l._i l.invariant c.loop-i-test.false
 
 pub common_width-code_at-code-requires : goal.common_width-code_at-code-requires
 common_width-code_at-code-requires t c = let a = c.args in header-room a.d.now a.p c.requires.here

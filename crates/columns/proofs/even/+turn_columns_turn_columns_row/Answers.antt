@@ -72,33 +72,27 @@ pub turn_columns_row-turn_columns-at-requires : goal.turn_columns_row-turn_colum
 turn_columns_row-turn_columns-at-requires t c =
     let a = c.args in
     let l = c.loop-i in
-    (omega (arith, c.decreases), ((next-type a.d.now a.k l.p a.left l.i l.invariant.row c.loop-i-test.true).first, columns-here a.d.now a.start a.k a.left a.s.now a.out.now a.from a.step a.n l.out l.p l.at l.i l.invariant c.loop-i-test.true))
+    (omega (arith, c.decreases), ((next-type a.d.now a.k l.p a.left l._i l.invariant.row c.loop-i-test.true).first, columns-here a.d.now a.start a.k a.left a.s.now a.out.now a.from a.step a.n l.out l.p l.at l._i l.invariant c.loop-i-test.true))
 
 pub turn_columns_row-size_at-p-requires : goal.turn_columns_row-size_at-p-requires
 turn_columns_row-size_at-p-requires t c =
     let a = c.args in
     let l = c.loop-i in
-    header-room a.d.now l.p (next-type a.d.now a.k l.p a.left l.i l.invariant.row c.loop-i-test.true).first.here
+    header-room a.d.now l.p (next-type a.d.now a.k l.p a.left l._i l.invariant.row c.loop-i-test.true).first.here
 
 pub turn_columns_row-overflow_add-p : goal.turn_columns_row-overflow_add-p
 turn_columns_row-overflow_add-p t c =
     let a = c.args in
     let l = c.loop-i in
-    let turn = next-type a.d.now a.k l.p a.left l.i l.invariant.row c.loop-i-test.true in
+    let turn = next-type a.d.now a.k l.p a.left l._i l.invariant.row c.loop-i-test.true in
     omega (arith, c.size_at-p.ensures.eq, turn.within, turn.rest.small)
-
-pub turn_columns_row-overflow_add-i : goal.turn_columns_row-overflow_add-i
-turn_columns_row-overflow_add-i t c = omega (arith, c.loop-i-test.true)
-
-pub turn_columns_row-loop-i-smaller : goal.turn_columns_row-loop-i-smaller
-turn_columns_row-loop-i-smaller t c = omega (arith, c.loop-i-test.true)
 
 pub turn_columns_row-loop-i-preserved : goal.turn_columns_row-loop-i-preserved
 turn_columns_row-loop-i-preserved t c =
     let a = c.args in
     let l = c.loop-i in
     rw c.size_at-p.ensures.eq
-    (columns-next a.d.now a.start a.k a.left a.s.now a.out.now a.from a.step a.n l.out l.p l.at l.i l.invariant c.loop-i-test.true _ _ c.turn_columns-at.ensures)
+    (columns-next a.d.now a.start a.k a.left a.s.now a.out.now a.from a.step a.n l.out l.p l.at l._i l.invariant c.loop-i-test.true _ _ c.turn_columns-at.ensures)
 
 pub turn_columns_row-shape_of-out : goal.turn_columns_row-shape_of-out
 turn_columns_row-shape_of-out t c = c.loop-i.invariant.long
@@ -107,4 +101,4 @@ pub turn_columns_row-returns : goal.turn_columns_row-returns
 turn_columns_row-returns t c =
     let a = c.args in
     let l = c.loop-i in
-    columns-end a.d.now a.start a.k a.left a.s.now a.out.now a.from a.step a.n l.out l.p l.at l.i l.invariant c.loop-i-test.false
+    columns-end a.d.now a.start a.k a.left a.s.now a.out.now a.from a.step a.n l.out l.p l.at l._i l.invariant c.loop-i-test.false
