@@ -1,18 +1,13 @@
 -- `turn_even` meets its contract: numbers of one width are a run, others are turned column by column.
 use mathlib.Core.Path.{◌∙◌}
 use native.Mathlib.Omega.{arith}
-use Rattle.columns.proofs.EvenTypes.{one-wide, one-some, one_size, one-few, one-run}
+use Rattle.columns.proofs.EvenTypes.{one-wide, one-some, one_size, one-run}
 use Rattle.columns.proofs.even.turn_even.Goals as goal
 
 pub nonzero_div-step : goal.nonzero_div-step
 nonzero_div-step c =
     let a = c.args in
     omega (arith, one-some a.d.now a.p a.left c.requires.type_stands a.step c.requires.even _ c.in-Width.ensures)
-
-pub overflow_mul-n : goal.overflow_mul-n
-overflow_mul-n c =
-    let a = c.args in
-    omega (arith, one-few a.d.now a.p a.left c.requires.type_stands a.step c.requires.even _ c.in-Width.ensures a.n, c.requires.laid.inside)
 
 pub turn_run-requires : goal.turn_run-requires
 turn_run-requires c =
