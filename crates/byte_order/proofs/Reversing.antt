@@ -5,10 +5,10 @@ use mathlib.Core.List.{List, ◌∷◌, ◌++◌, reverse, reverse-append}
 use Prim.Native.Nat.{ℕ, zero, suc, ◌+◌, ◌*◌, ◌/◌, ◌%◌, ◌^◌, ◌<◌, ◌≤◌}
 use native.Mathlib.Nat.{zero-add, suc-add, pow-zero, pow-suc, pow-succ', mul_assoc, div-one, div-add-mod', div-div-eq-div-mul}
 use native.Mathlib.Omega.{arith}
-use lib.ListN.{length, get_or, set, take, drop}
+use lib.ListN.{length, get_or, take, drop}
 use mir.Syntax.{w8}
 use mir.Val.{Fits}
-use lib.Seq.{sets, take-add, drop-drop, drop-cons}
+use lib.Seq.{sets, take-add, drop-drop}
 use Rattle.number.specs.Endian.{be, le_bytes}
 use Rattle.number.proofs.Inverse.{le_bytes-be}
 use Rattle.number.proofs.Writing.{length-le_bytes, sets-append}

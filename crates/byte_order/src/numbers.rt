@@ -5,7 +5,7 @@ ghost use Rattle.std.proofs.lemmas.List.Edits.{sets};
 ghost use Rattle.number.specs.Endian.{be, le_bytes};
 ghost use Rattle.byte_order.specs.inner.Turning.{turned_at, NumberWide, Room};
 
-use flattened::order::{Order, number_2, number_4};
+use flattened::order::{Number, Order};
 use number::endian::{read_be, write_le};
 
 // How many numbers four bytes can say.
@@ -41,7 +41,7 @@ impl Turn for u16 {
     const WIDTH: usize = 2;
 
     fn turn(s: &[u8], out: &mut [u8], at: usize) {
-        write_le(out, at, 2, number_2(s, at, Order::Big) as u64);
+        write_le(out, at, 2, u16::read(s, at, Order::Big) as u64);
     }
 }
 
@@ -51,7 +51,7 @@ impl Turn for u32 {
     const WIDTH: usize = 4;
 
     fn turn(s: &[u8], out: &mut [u8], at: usize) {
-        write_le(out, at, 4, number_4(s, at, Order::Big) as u64);
+        write_le(out, at, 4, u32::read(s, at, Order::Big) as u64);
     }
 }
 

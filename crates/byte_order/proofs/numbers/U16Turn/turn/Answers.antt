@@ -9,4 +9,4 @@ pub returns : goal.returns
 unfolding order_of number_at
 returns c =
     let a = c.args in
-    c.write_le.ensures ∙ number-turned a.s.now c.type_inv.s a.out.now 2 a.at _ c.requires.inside c.number_2.ensures
+    c.write_le.ensures ∙ number-turned a.s.now c.type_inv.s a.out.now 2 a.at _ c.requires.inside c.read.ensures
