@@ -97,13 +97,13 @@ mutual
 
 -- numbers of several widths stay so
 mixed-stays : (ws : List ℕ) → common_width Mixed ws ≡ Mixed
-unfolding common_width joined_width
+unfolding common_width
 mixed-stays [] = refl
 mixed-stays (w ∷ ws) = mixed-stays ws
 
 -- numbers after one of the width v that have the width w in common
 common-after : (w v : ℕ) (ws : List ℕ) → Width w ≡ common_width (Width v) ws → (v ≡ w) × (ws ≡ copies (length ws) w)
-unfolding common_width joined_width copies
+unfolding common_width copies
 common-after w v [] e = (cc, refl)
 common-after w v (u ∷ us) e = go (eqb v u) refl e (λ l. common-after w u us l)
   where
@@ -114,7 +114,7 @@ common-after w v (u ∷ us) e = go (eqb v u) refl e (λ l. common-after w u us l
 
 -- and all of them
 common-all : (w : ℕ) (ws : List ℕ) → EachWide ws → Width w ≡ common_width Free ws → NumberWide w × (ws ≡ copies (length ws) w)
-unfolding common_width joined_width copies EachWide
+unfolding common_width copies EachWide
 common-all w [] each e = absurd (cc)
 common-all w (u ∷ us) each e =
     let rest = common-after w u us e in

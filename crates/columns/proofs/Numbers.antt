@@ -85,12 +85,10 @@ module _ (d : List ℕ) (p : ℕ) (here : Stands d p) where
       ∙ fields-other (it d p here).code (it d p here).fields (numbers_all (it d p here).inner) (not-measured d p here e) (ap is_compound (it d p here).kind ∙ h)
 
 self : (w : ℕ) → joined_width (Width w) w ≡ Width w
-unfolding joined_width
 self w = ap (λ (b : Bool). cond b (Width w) Mixed) (eq-eqb w w refl)
 
 -- a width that is joined again stays
 joined-again : (before : Common) (w : ℕ) → joined_width (joined_width before w) w ≡ joined_width before w
-unfolding joined_width
 joined-again Free w = self w
 joined-again (Width v) w = go (eqb v w)
   where
