@@ -21,7 +21,7 @@ use Rattle.flattened.proofs.ExtentTurns.{Small, type-few}
 use Rattle.flattened.proofs.Types.{type-solid}
 use Rattle.byte_order.specs.Reversal.{number_count, number_width}
 use Rattle.byte_order.specs.inner.Turning.{turned_run, NumberWide}
-use Rattle.columns.specs.inner.Columns.{copies, numbers_fields, numbers_in, numbers_all, total, joined_width, common_width, turned_elements, Even}
+use Rattle.columns.specs.inner.Columns.{copies, numbers_fields, numbers_in, numbers_all, total, common_width, turned_elements, Even}
 use Rattle.byte_order.proofs.Widths.{numbers-all, number-wide}
 use Rattle.columns.proofs.Elements.{total-append, total-copies, elements-run}
 
@@ -131,7 +131,7 @@ module _ (t : Tree) (step : ℕ) (even : Even t step) where
   even-total = type-total t even-fixed ∙ sym (ap least even.is)
 
 -- of a type that stands somewhere
-module _ (d : List ℕ) (p left : ℕ) (type : TypeStands d p left) (step : ℕ) (even : Even (type_at d p) step) where
+module _ {d : List ℕ} {p left : ℕ} (type : TypeStands d p left) {step : ℕ} (even : Even (type_at d p) step) where
   abbrev numbers : List ℕ
   numbers = numbers_in (type_at d p)
 
@@ -142,7 +142,7 @@ module _ (d : List ℕ) (p left : ℕ) (type : TypeStands d p left) (step : ℕ)
       omega (arith, few.tokens, few.many)
 
   -- their numbers have one width
-  module _ (w : ℕ) (common : Width w ≡ common_width Free numbers) where
+  module _ {w : ℕ} (common : Width w ≡ common_width Free numbers) where
     all : NumberWide w × (numbers ≡ copies (length numbers) w)
     all = common-all w numbers (type-wide (type_at d p) (type-solid d p left type)) common
 

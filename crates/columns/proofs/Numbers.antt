@@ -61,28 +61,32 @@ fields-other c (dimensions k) ws e h = refl
 fields-other c (members k) ws e h = impossible (sym h)
 fields-other c subtype ws e h = impossible (sym h)
 
-module _ (d : List ℕ) (p : ℕ) (here : Stands d p) where
+module _ {d : List ℕ} {p : ℕ} (here : Stands d p) where
   opened : numbers_in (type_at d p) ≡ numbers_fields (it d p here).code (it d p here).fields (numbers_all (it d p here).inner)
   unfolding numbers_in
   opened = ap numbers_in (it d p here).tree
 
-  pub numbers-scalar : (code : ℕ) → code ≡ code_in d p → 0 < width_of code → numbers_in (type_at d p) ≡ copies (number_count code) (number_width code)
-  numbers-scalar code e h =
+  pub numbers-scalar : {code : ℕ} → code ≡ code_in d p → 0 < width_of code → numbers_in (type_at d p) ≡ copies (number_count code) (number_width code)
+  numbers-scalar e h =
       let some : 0 < width_of (code_in d p) = subst (λ (c : ℕ). 0 < width_of c) e h in
       opened
       ∙ fields-scalar (it d p here).code (it d p here).fields (numbers_all (it d p here).inner) (is-measured d p here some)
       ∙ ap (λ (c : ℕ). copies (number_count c) (number_width c)) ((it d p here).coded ∙ sym e)
 
-  pub numbers-members : (i : Inside) → i ≡ inside_of d p → is_compound (kind_of (code_in d p)) ≡ true → numbers_in (type_at d p) ≡ numbers_all (types_at d i.children i.at)
-  numbers-members i e k =
+  pub numbers-members : {i : Inside} → i ≡ inside_of d p → is_compound (kind_of (code_in d p)) ≡ true → numbers_in (type_at d p) ≡ numbers_all (types_at d i.children i.at)
+  numbers-members e k =
       opened
       ∙ fields-compound (it d p here).code (it d p here).fields (numbers_all (it d p here).inner) (ap is_compound (it d p here).kind ∙ k)
-      ∙ ap numbers_all (sym (types-inside d p here i e (compound-inside _ k)))
+      ∙ ap numbers_all (sym (types-inside d p here _ e (compound-inside _ k)))
 
   pub numbers-other : width_of (code_in d p) ≡ 0 → is_compound (kind_of (code_in d p)) ≡ false → numbers_in (type_at d p) ≡ []
   numbers-other e h =
       opened
       ∙ fields-other (it d p here).code (it d p here).fields (numbers_all (it d p here).inner) (not-measured d p here e) (ap is_compound (it d p here).kind ∙ h)
+
+-- whether the type is a compound, by the code that was read
+pub compound-code : {code c : ℕ} {r b : Bool} → code ≡ c → r ≡ is_compound (kind_of code) → r ≡ b → is_compound (kind_of c) ≡ b
+compound-code e f h = cc
 
 self : (w : ℕ) → joined_width (Width w) w ≡ Width w
 self w = ap (λ (b : Bool). cond b (Width w) Mixed) (eq-eqb w w refl)
@@ -113,38 +117,38 @@ common-scalar before c = go (is_complex c)
     go false = refl
 
 -- the columns of a type, by its numbers
-module _ (us ws : List ℕ) (numbers : us ≡ ws) (s out : List ℕ) where
-  pub spread-numbers : (at step n : ℕ) → Spread s out (at + total us) step n → Spread s out (at + total ws) step n
-  spread-numbers at step n h = subst (λ (vs : List ℕ). Spread s out (at + total vs) step n) numbers h
+module _ {us ws : List ℕ} (numbers : us ≡ ws) {s out : List ℕ} (at : ℕ) {step n : ℕ} where
+  pub spread-numbers : Spread s out (at + total us) step n → Spread s out (at + total ws) step n
+  spread-numbers h = subst (λ (vs : List ℕ). Spread s out (at + total vs) step n) numbers h
 
-  pub columns-numbers : (after : List ℕ) (at step n next : ℕ) → ColumnsTurned ws s step n at out after next → ColumnsTurned us s step n at out after next
-  columns-numbers after at step n next t = subst (λ (vs : List ℕ). ColumnsTurned vs s step n at out after next) (sym numbers) t
+  pub columns-numbers : {after : List ℕ} {next : ℕ} → ColumnsTurned ws s step n at out after next → ColumnsTurned us s step n at out after next
+  columns-numbers {after} {next} t = subst (λ (vs : List ℕ). ColumnsTurned vs s step n at out after next) (sym numbers) t
 
 -- of a scalar
-module _ (us : List ℕ) (c w : ℕ) (wide : w ≡ width_of c) (numbers : us ≡ copies (number_count c) (number_width c)) (s out : List ℕ) where
+module _ {us : List ℕ} (c : ℕ) {w : ℕ} (wide : w ≡ width_of c) (numbers : us ≡ copies (number_count c) (number_width c)) where
   bytes : total us ≡ w
   bytes = ap total numbers ∙ total-copies (number_count c) (number_width c) ∙ numbers-all c ∙ sym wide
 
-  pub scalar-spread : (at step n : ℕ) → Spread s out (at + total us) step n → Spread s out (at + w) step n
-  scalar-spread at step n h = subst (λ (k : ℕ). Spread s out (at + k) step n) bytes h
+  pub scalar-spread : {s out : List ℕ} (at : ℕ) {step n : ℕ} → Spread s out (at + total us) step n → Spread s out (at + w) step n
+  scalar-spread {s} {out} at {step} {n} h = subst (λ (k : ℕ). Spread s out (at + k) step n) bytes h
 
-  pub scalar-columns : (after : List ℕ) (at step n : ℕ) → after ≡ turned_columns (copies (number_count c) (number_width c)) s step n at out
+  pub scalar-columns : {s out after : List ℕ} {at step n : ℕ} → after ≡ turned_columns (copies (number_count c) (number_width c)) s step n at out
       → ColumnsTurned us s step n at out after (at + w)
-  scalar-columns after at step n e = record {
+  scalar-columns {s} {out} {at = at} {step} {n} e = record {
     place = omega (arith, bytes);
     bytes = e ∙ ap (λ (vs : List ℕ). turned_columns vs s step n at out) (sym numbers);
   }
 
 -- of a type that has none
-pub no-columns : (us : List ℕ) → us ≡ [] → (s out : List ℕ) (at step n : ℕ) → ColumnsTurned us s step n at out out at
+pub no-columns : {us : List ℕ} → us ≡ [] → {s out : List ℕ} {at step n : ℕ} → ColumnsTurned us s step n at out out at
 unfolding total turned_columns
-no-columns us numbers s out at step n = record {
+no-columns numbers {s} {out} {at} {step} {n} = record {
   place = sym (add-zero at) ∙ ap (λ (vs : List ℕ). at + total vs) (sym numbers);
   bytes = ap (λ (vs : List ℕ). turned_columns vs s step n at out) (sym numbers);
 }
 
 -- the types of a row one by one
-module _ (d : List ℕ) (k p left i : ℕ) (row : RowStands d (k - i) p left) (more : i < k) where
+module _ {d : List ℕ} {k p left i : ℕ} (row : RowStands d (k - i) p left) (more : i < k) where
   fewer : k - i ≡ suc (k - (i + 1))
   fewer = omega arith
 
@@ -162,104 +166,89 @@ no-numbers d k p i done =
     let e : k - i ≡ 0 = omega arith in
     ap (λ (n : ℕ). numbers_all (types_at d n p)) e ∙ ap (λ (f : Forest). numbers_all f) (ap forest_of (row-none d p))
 
--- the loop that finds the width
-module _ (d : List ℕ) (start k : ℕ) (before : Common) (left : ℕ) where
-  abbrev all : List ℕ
-  all = numbers_all (types_at d k start)
+-- the loop that finds the width: i of the types have been passed, up to p
+pub record CommonLoop (d : List ℕ) (start k : ℕ) (before : Common) (left p : ℕ) (w : Common) (i : ℕ) : Type 0 where
+  pub row : RowStands d (k - i) p left
+  pub same : common_width before (numbers_all (types_at d k start)) ≡ common_width w (numbers_all (types_at d (k - i) p))
 
-  -- i of the types have been passed, up to p
-  pub record CommonLoop (p : ℕ) (w : Common) (i : ℕ) : Type 0 where
-    pub most : i ≤ k
-    pub row : RowStands d (k - i) p left
-    pub same : common_width before all ≡ common_width w (numbers_all (types_at d (k - i) p))
+pub common-begin : {d : List ℕ} {start k left : ℕ} {before : Common} → RowStands d k start left → CommonLoop d start k before left start before 0
+common-begin {d} {start} {k} {left} {before} row = record {
+  row = subst (λ (n : ℕ). RowStands d n start left) (sym (sub-zero k)) row;
+  same = ap (λ (n : ℕ). common_width before (numbers_all (types_at d n start))) (sym (sub-zero k));
+}
 
-  pub common-begin : RowStands d k start left → CommonLoop start before 0
-  common-begin row = record {
-    most = omega arith;
-    row = subst (λ (n : ℕ). RowStands d n start left) (sym (sub-zero k)) row;
-    same = ap (λ (n : ℕ). common_width before (numbers_all (types_at d n start))) (sym (sub-zero k));
-  }
-
-  module _ (p : ℕ) (w : Common) (i : ℕ) (loop : CommonLoop p w i) where
-    pub common-next : (more : i < k) (v : Common) → v ≡ common_width w (numbers_in (type_at d p)) → CommonLoop (p + size_in d p) v (i + 1)
-    common-next more v e =
-        let rest : List ℕ = numbers_all (types_at d (k - (i + 1)) (p + size_in d p)) in
-        record {
-          most = omega arith;
-          row = (next-type d k p left i loop.row more).rest;
-          same =
-              loop.same
-              ∙ ap (common_width w) (next-numbers d k p left i loop.row more)
-              ∙ common-append w (numbers_in (type_at d p)) rest
-              ∙ ap (λ (u : Common). common_width u rest) (sym e);
-        }
-
-    pub common-end : k ≤ i → w ≡ common_width before all
-    unfolding common_width
-    common-end done = sym (loop.same ∙ ap (common_width w) (no-numbers d k p i done))
-
--- the loop over columns
-module _ (d : List ℕ) (start k left : ℕ) (s before : List ℕ) (from step n : ℕ) where
-  abbrev whole : List ℕ
-  whole = numbers_all (types_at d k start)
-
-  -- i of the types have been turned, up to `at`; the next stands at p
-  pub record ColumnsLoop (out : List ℕ) (p at i : ℕ) : Type 0 where
-    pub most : i ≤ k
-    pub row : RowStands d (k - i) p left
-    pub room : Spread s out (at + total (numbers_all (types_at d (k - i) p))) step n
-    pub long : length out ≡ length before
-    pub place : from + total whole ≡ at + total (numbers_all (types_at d (k - i) p))
-    pub same : turned_columns whole s step n from before ≡ turned_columns (numbers_all (types_at d (k - i) p)) s step n at out
-
-  pub columns-begin : RowStands d k start left → Spread s before (from + total whole) step n → ColumnsLoop before start from 0
-  columns-begin row room =
-      let none : k ≡ k - 0 = sym (sub-zero k) in
+module _ {d : List ℕ} {start k : ℕ} {before : Common} {left p : ℕ} {w : Common} {i : ℕ} (loop : CommonLoop d start k before left p w i) where
+  pub common-next : i < k → {v : Common} → v ≡ common_width w (numbers_in (type_at d p)) → CommonLoop d start k before left (p + size_in d p) v (i + 1)
+  common-next more e =
+      let rest : List ℕ = numbers_all (types_at d (k - (i + 1)) (p + size_in d p)) in
       record {
-        most = omega arith;
-        row = subst (λ (j : ℕ). RowStands d j start left) none row;
-        room = subst (λ (j : ℕ). Spread s before (from + total (numbers_all (types_at d j start))) step n) none room;
-        long = refl;
-        place = ap (λ (j : ℕ). from + total (numbers_all (types_at d j start))) none;
-        same = ap (λ (j : ℕ). turned_columns (numbers_all (types_at d j start)) s step n from before) none;
+        row = (next-type loop.row more).rest;
+        same =
+            loop.same
+            ∙ ap (common_width w) (next-numbers loop.row more)
+            ∙ common-append w (numbers_in (type_at d p)) rest
+            ∙ ap (λ (u : Common). common_width u rest) (sym e);
       }
 
-  module _ (out : List ℕ) (p at i : ℕ) (loop : ColumnsLoop out p at i) where
-    module _ (more : i < k) where
-      abbrev here : List ℕ
-      here = numbers_in (type_at d p)
+  pub common-end : k ≤ i → w ≡ common_width before (numbers_all (types_at d k start))
+  unfolding common_width
+  common-end done = sym (loop.same ∙ ap (common_width w) (no-numbers d k p i done))
 
-      abbrev rest : List ℕ
-      rest = numbers_all (types_at d (k - (i + 1)) (p + size_in d p))
+-- the loop over columns: i of the types have been turned, up to `at`; the next stands at p
+pub record ColumnsLoop (d : List ℕ) (start k left : ℕ) (s before : List ℕ) (from step n : ℕ) (out : List ℕ) (p at i : ℕ) : Type 0 where
+  pub row : RowStands d (k - i) p left
+  pub room : Spread s out (at + total (numbers_all (types_at d (k - i) p))) step n
+  pub place : from + total (numbers_all (types_at d k start)) ≡ at + total (numbers_all (types_at d (k - i) p))
+  pub same :
+      turned_columns (numbers_all (types_at d k start)) s step n from before ≡ turned_columns (numbers_all (types_at d (k - i) p)) s step n at out
 
-      both : total (numbers_all (types_at d (k - i) p)) ≡ total here + total rest
-      both = ap total (next-numbers d k p left i loop.row more) ∙ total-append here rest
+pub columns-begin : {d : List ℕ} {start k left : ℕ} {s before : List ℕ} {from step n : ℕ} → RowStands d k start left
+    → Spread s before (from + total (numbers_all (types_at d k start))) step n → ColumnsLoop d start k left s before from step n before start from 0
+columns-begin {d} {start} {k} {left} {s} {before} {from} {step} {n} row room =
+    let none : k ≡ k - 0 = sym (sub-zero k) in
+    record {
+      row = subst (λ (j : ℕ). RowStands d j start left) none row;
+      room = subst (λ (j : ℕ). Spread s before (from + total (numbers_all (types_at d j start))) step n) none room;
+      place = ap (λ (j : ℕ). from + total (numbers_all (types_at d j start))) none;
+      same = ap (λ (j : ℕ). turned_columns (numbers_all (types_at d j start)) s step n from before) none;
+    }
 
-      -- the next type's
-      pub columns-here : Spread s out (at + total here) step n
-      columns-here = spread-as s out out _ (at + total here) step n refl (omega (arith, both)) loop.room
+module _ {d : List ℕ} {start k left : ℕ} {s before : List ℕ} {from step n : ℕ} {out : List ℕ} {p at i : ℕ}
+    (loop : ColumnsLoop d start k left s before from step n out p at i) where
+  module _ (more : i < k) where
+    abbrev here : List ℕ
+    here = numbers_in (type_at d p)
 
-      pub columns-next : (after : List ℕ) (q : ℕ) → ColumnsTurned here s step n at out after q → ColumnsLoop after (p + size_in d p) q (i + 1)
-      columns-next after q t =
-          let long : length after ≡ length out = ap length t.bytes ∙ columns-length s here step n at out in
-          record {
-            most = omega arith;
-            row = (next-type d k p left i loop.row more).rest;
-            room = spread-as s out after _ (q + total rest) step n long (omega (arith, both, t.place)) loop.room;
-            long = long ∙ loop.long;
-            place = omega (arith, loop.place, both, t.place);
-            same =
-                loop.same
-                ∙ ap (λ (ws : List ℕ). turned_columns ws s step n at out) (next-numbers d k p left i loop.row more)
-                ∙ columns-append s here rest step n at out
-                ∙ ap₂ (λ (u : ℕ) (x : List ℕ). turned_columns rest s step n u x) (sym t.place) (sym t.bytes);
-          }
+    abbrev rest : List ℕ
+    rest = numbers_all (types_at d (k - (i + 1)) (p + size_in d p))
 
-    pub columns-end : k ≤ i → ColumnsTurned whole s step n from before out at
-    unfolding total turned_columns
-    columns-end done =
-        let none : total (numbers_all (types_at d (k - i) p)) ≡ 0 = ap total (no-numbers d k p i done) in
+    both : total (numbers_all (types_at d (k - i) p)) ≡ total here + total rest
+    both = ap total (next-numbers loop.row more) ∙ total-append here rest
+
+    -- the next type's
+    pub columns-here : Spread s out (at + total here) step n
+    columns-here = spread-as s out out _ (at + total here) step n refl (omega (arith, both)) loop.room
+
+    pub columns-next : {after : List ℕ} {q : ℕ} → ColumnsTurned here s step n at out after q
+        → ColumnsLoop d start k left s before from step n after (p + size_in d p) q (i + 1)
+    columns-next {after} {q} t =
+        let long : length after ≡ length out = ap length t.bytes ∙ columns-length s here step n at out in
         record {
-          place = omega (arith, loop.place, none);
-          bytes = sym (loop.same ∙ ap (λ (ws : List ℕ). turned_columns ws s step n at out) (no-numbers d k p i done));
+          row = (next-type loop.row more).rest;
+          room = spread-as s out after _ (q + total rest) step n long (omega (arith, both, t.place)) loop.room;
+          place = omega (arith, loop.place, both, t.place);
+          same =
+              loop.same
+              ∙ ap (λ (ws : List ℕ). turned_columns ws s step n at out) (next-numbers loop.row more)
+              ∙ columns-append s here rest step n at out
+              ∙ ap₂ (λ (u : ℕ) (x : List ℕ). turned_columns rest s step n u x) (sym t.place) (sym t.bytes);
         }
+
+  pub columns-end : k ≤ i → ColumnsTurned (numbers_all (types_at d k start)) s step n from before out at
+  unfolding total turned_columns
+  columns-end done =
+      let none : total (numbers_all (types_at d (k - i) p)) ≡ 0 = ap total (no-numbers d k p i done) in
+      record {
+        place = omega (arith, loop.place, none);
+        bytes = sym (loop.same ∙ ap (λ (ws : List ℕ). turned_columns ws s step n at out) (no-numbers d k p i done));
+      }
