@@ -5,7 +5,6 @@ use mathlib.Core.Bool.{true}
 use mathlib.Core.List.{List}
 use Prim.Native.Nat.{ℕ, zero, suc, ◌+◌, ◌-◌, ◌<◌, ◌≤◌}
 use Rattle.std.specs.Prelude.{Ok, Err}
-use native.Mathlib.Nat.{sub-zero}
 use native.Mathlib.Omega.{arith}
 use lib.ListN.{length}
 use Rattle.descriptor.specs.Header.{size_in}
@@ -95,13 +94,6 @@ member-out i d (suc n) p left (suc k) s at low lies h =
 pub record MemberLoop (i : ℕ) (d : List ℕ) (start n k : ℕ) (s : List ℕ) (from p at m : ℕ) : Type 0 where
   pub lies : RowLies d (n - m) p (depth_limit - (i + 1)) s at
   pub same : member_at i (types_at d n start) k s from ≡ member_at i (types_at d (n - m) p) (k - m) s at
-
-pub member-begin : (i : ℕ) (d : List ℕ) (start n k : ℕ) (s : List ℕ) (from : ℕ) → RowLies d n start (depth_limit - (i + 1)) s from
-    → MemberLoop i d start n k s from start from 0
-member-begin i d start n k s from lies = record {
-  lies = subst (λ (j : ℕ). RowLies d j start (depth_limit - (i + 1)) s from) (sym (sub-zero n)) lies;
-  same = λ l. member_at i (types_at d (sym (sub-zero n) l) start) (sym (sub-zero k) l) s from;
-}
 
 module _ {i : ℕ} {d : List ℕ} {start n k : ℕ} {s : List ℕ} {from p at m : ℕ} (loop : MemberLoop i d start n k s from p at m) (more : m < n) where
   some : n - m ≡ suc (n - (m + 1))

@@ -2,7 +2,7 @@
 use mathlib.Core.Path.{◌≡◌, refl, sym, ap, subst, ◌∙◌}
 use mathlib.Core.Bool.{Bool}
 use mathlib.Core.List.{List, []}
-use Prim.Native.Nat.{ℕ, ◌+◌, ◌-◌, ◌*◌, ◌≤◌}
+use Prim.Native.Nat.{ℕ, ◌+◌, ◌*◌, ◌≤◌}
 use Rattle.std.specs.Prelude.{Some}
 use native.Mathlib.Nat.{add-mul}
 use native.Mathlib.Numerals.{add-one}
@@ -19,7 +19,6 @@ use Rattle.flattened.specs.declared.cursor.Cursor.{Cursor}
 use Rattle.flattened.specs.declared.extent.Extent.TheVariants.{Around}
 use Rattle.flattened.proofs.Extents.{walk-crosses}
 use Rattle.flattened.proofs.Repeats.{reads_at, repeat-more}
-use Rattle.walking.specs.inner.Fronts.{passed, PassesAround}
 
 -- so many values have been passed, up to a place
 pub record AroundLoop (o : Order) (s : List ℕ) (before after k at place count : ℕ) : Type 0 where
@@ -53,9 +52,3 @@ around-next {o} {s} {before} {after} {k} {at} {place} {count} {c} loop short lea
           let here = (walk-crosses s t before after k j (sym e) o place).crossed keeps (omega (arith, h.0, h.1)) (omega (arith, h.0, h.1)) in
           reads_at (repeat-more (λ a. walk o t s a) count at (loop.reads t j e (λ i l. kept i (omega arith))) here) (sym h.0) (sym more-tokens);
     }
-
-pub around-passes : {o : Order} {s : List ℕ} {before after k at place count : ℕ} → AroundLoop o s before after k at place count → (n : ℕ) → count ≤ n
-    → PassesAround o before after k s n at (passed count (place - at) (count * k))
-around-passes {o} {s} {before} {after} {k} {at} {place} {count} loop n most j t x kept =
-    let end : place ≡ at + (place - at) = omega (arith, loop.few) in
-    record { most = most; reads = reads_at (loop.reads t j x (λ i l. kept i (omega arith))) end refl }

@@ -7,8 +7,7 @@ use Prim.Native.Nat.{ℕ, suc, ◌+◌, ◌-◌, ◌*◌, ◌/◌, ◌<◌, ◌�
 use Rattle.std.specs.Prelude.{Option, Some, None, Ok, Err}
 use Rattle.descriptor.specs.inner.Steps.{refusal_at}
 use Rattle.descriptor.specs.declared.refusal.Refusal.{Refusal}
-use native.Mathlib.Nat.{add-zero, mul-le-mul_right, div-mul-le_self, div-lt_iff_lt-mul}
-use native.Mathlib.Decide.{dec_lt}
+use native.Mathlib.Nat.{add-zero, mul-le-mul_right, div-mul-le_self}
 use native.Mathlib.Omega.{arith}
 use borrow.Author.Tests.{lt-ltb}
 use lib.ListN.{length}
@@ -43,17 +42,6 @@ use Rattle.elements.proofs.Placing.{fixed-place}
 use Rattle.flattened.proofs.Progresses.{plus-plus, follow-reads}
 use Rattle.flattened.proofs.Repeats.{reads_at, reads-follow, repeat_split, repeat-run}
 use Rattle.flattened.proofs.Judged.{ruled_at, ruled-read}
-
--- n fit exactly where n is at most as many as fit
-pub fits_all : (n w room : ℕ) → 0 < w → n * w ≤ room → n ≤ room / w
-fits_all n w room some h = go (dec_lt (room / w) n)
-  where
-    go : Dec (room / w < n) → n ≤ room / w
-    go (yes l) = let over : room < n * w = (div-lt_iff_lt-mul some).0 l in absurd (omega arith)
-    go (no l) = omega arith
-
-pub fits-fewer : (n w room : ℕ) → 0 < w → room < n * w → room / w < n
-fits-fewer n w room some h = (div-lt_iff_lt-mul some).1 h
 
 -- as many of n as fit
 module _ (n w room m : ℕ) (e : m ≡ min n (room / w)) where

@@ -57,7 +57,7 @@ fn value(
     left: usize,
 ) -> Result<Walked, Refusal>
     requires type_stands { TypeStands d.now p left }
-    requires p_value { width_of (code_in d.now p) ≡ 0 }
+    requires no_width { width_of (code_in d.now p) ≡ 0 }
     requires data_at { DataAt s.now from.at }
     ensures { result ≡ progress (walk (order_of o) (type_at d.now p) s.now from.at) }
 {

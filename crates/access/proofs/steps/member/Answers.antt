@@ -3,18 +3,13 @@ use mathlib.Core.Path.{refl}
 use Prim.Native.Nat.{◌<◌}
 use native.Mathlib.Omega.{arith}
 use Rattle.descriptor.proofs.Bodies.{header-room}
-use Rattle.access.proofs.Members.{member-begin, member-lies, member-value, member-again, member-found, member-none}
+use Rattle.access.proofs.Members.{member-lies, member-value, member-again, member-found, member-none}
 use Rattle.access.proofs.steps.member.Goals as goal
 
 pub returns-then-n-k : goal.returns-then-n-k
 returns-then-n-k c =
     let a = c.args in
     member-none a.i a.d.now a.start a.n a.k a.s.now a.from.at c.if-n-k.true c.requires.deep c.requires.row_lies
-
-pub loop-init : goal.loop-init
-loop-init c =
-    let a = c.args in
-    member-begin a.i a.d.now a.start a.n a.k a.s.now a.from.at c.requires.row_lies
 
 pub past_member-next-requires : goal.past_member-next-requires
 past_member-next-requires c = let more : c.loop.counter < c.args.n = omega arith in member-value c.loop.invariant more

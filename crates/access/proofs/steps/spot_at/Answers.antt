@@ -1,14 +1,7 @@
 -- The answers to the goals of `spot_at`.
-use mathlib.Core.Path.{refl}
 use Rattle.std.proofs.lemmas.Result.{err_from_is_err_and}
 use Rattle.access.proofs.Paths.{path-again, path-lost, path-done}
 use Rattle.access.proofs.steps.spot_at.Goals as goal
-
-pub loop-i-init : goal.loop-i-init
-loop-i-init c = record { lies = c.requires; same = refl }
-
-pub step-requires-clause-lies : goal.step-requires-clause-lies
-step-requires-clause-lies c = c.loop-i.invariant.lies
 
 pub returns-in_err-spot : goal.returns-in_err-spot
 returns-in_err-spot c =

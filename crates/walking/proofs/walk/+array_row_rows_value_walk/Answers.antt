@@ -230,7 +230,7 @@ value-row-requires t c =
     let a = c.args in
     let type = c.requires.type_stands in
     let is : c.kind_of-k.result ≡ kind_is (kind_of (code_in a.d.now a.p)) = cc in
-    let kind = compound-here a.d.now a.p _ is type.here c.requires.p_value c.in_default.not-Text c.in_default-k.not-Array in
+    let kind = compound-here a.d.now a.p _ is type.here c.requires.no_width c.in_default.not-Text c.in_default-k.not-Array in
     (omega (arith, c.decreases, type-deep a.d.now a.p a.left type), (row_inside a.d.now a.p a.left type _ c.inside_of-inside.ensures (compound-inside _ kind), c.requires.data_at))
 
 pub value-returns : goal.value-returns
@@ -238,7 +238,7 @@ value-returns t c =
     let a = c.args in
     let here = c.requires.type_stands.here in
     let is : c.kind_of-k.result ≡ kind_is (kind_of (code_in a.d.now a.p)) = cc in
-    let kind = compound-here a.d.now a.p _ is here c.requires.p_value c.in_default.not-Text c.in_default-k.not-Array in
+    let kind = compound-here a.d.now a.p _ is here c.requires.no_width c.in_default.not-Text c.in_default-k.not-Array in
     rw c.row.ensures (sym (ap progress (value-compound a.d.now a.p here (order_of a.o) a.s.now a.from.at _ c.inside_of-inside.ensures kind)))
 
 pub walk-code_at-code-requires : goal.walk-code_at-code-requires
