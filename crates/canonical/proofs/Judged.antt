@@ -1,5 +1,5 @@
 -- From the steps of the check to the answers. Rests on the laws of steps, of whole descriptors and of a refusal's place.
-use mathlib.Core.Path.{◌≡◌, refl, sym, ap, ◌∙◌}
+use mathlib.Core.Path.{◌≡◌, refl, sym, ap, subst, ◌∙◌}
 use mathlib.Core.Bool.{Bool, true, false}
 use mathlib.Core.List.{List, ◌++◌}
 use Prim.Native.Nat.{ℕ, ◌≤◌, ◌<◌}
@@ -21,6 +21,7 @@ use Rattle.descriptor.specs.declared.refusal.Refusal.{Refusal}
 use Rattle.descriptor.specs.declared.step.Step.{Step}
 use Rattle.descriptor.proofs.Checked.{judged-refused, judged-place}
 use Rattle.descriptor.proofs.Steps.{got, impossible}
+use Rattle.descriptor.proofs.Places.{refused-place}
 use Rattle.descriptor.proofs.Standing.{accepted-standing}
 use Rattle.canonical.specs.Equality.{same_tree, not_compared, both_compared, comparison}
 use Rattle.canonical.specs.Normal.{normal_form}
@@ -29,7 +30,7 @@ use Rattle.canonical.specs.declared.Compared.{Compared}
 use Rattle.canonical.proofs.Fronts.{front-whole}
 use Rattle.canonical.proofs.Lists.{bytes_of, bool_same}
 use Rattle.canonical.proofs.Same.{same_refl}
-use Rattle.canonical.proofs.Whole.{top-inside, walk-accepts, differ-long, same-long, normal-length, normal-cleared}
+use Rattle.canonical.proofs.Whole.{accepted_of, top-inside, walk-accepts, differ-long, same-long, normal-length, normal-cleared}
 
 -- what the check of s came to: a tree
 pub judged-accepted : (s : List ℕ) (r : Step) → Ok r ≡ counted row_count (checked s) → Accepted s
@@ -138,24 +139,45 @@ module _ (d out : List ℕ) where
         let bytes_out = normal-cleared d out (bytes_of d bytes) a.at a.tree a.eq in
         (λ i. record { answer = accepted (sym long i); out = bytes_out i }) ∙ rw (a.eq, yes) refl
 
--- The same by the steps of the two checks.
+-- The same by what the code has in hand: the first as an accepted descriptor d, and the step of the second's check.
 module _ (a b : List ℕ) where
-  pub first_refused : (r : Refusal) → Err r ≡ counted row_count (checked a) → comparison a b ≡ not_compared r.number 1 r.place
-  first_refused r e = sym (first-refused a b r.number r.place (judged-refused a r e))
+  pub first_refused : (r : Refusal) → checked a ≡ refused r.number r.place → comparison a b ≡ not_compared r.number 1 r.place
+  first_refused r e = sym (first-refused a b r.number r.place e)
 
-  module _ (v : Step) (ev : Ok v ≡ counted row_count (checked a)) where
+  module _ (d : List ℕ) (same : d ≡ a) (known : is_read (checked d) ≡ true) where
+    first : Accepted a
+    first = subst (λ (s : List ℕ). Accepted s) same (accepted_of d known)
+
     pub second_refused : (r : Refusal) → Err r ≡ counted row_count (checked b) → comparison a b ≡ not_compared r.number 2 r.place
-    second_refused r e = sym (second-refused a b r.number r.place (judged-accepted a v ev) (judged-refused b r e))
+    second_refused r e = sym (second-refused a b r.number r.place first (judged-refused b r e))
 
-    pub both_equal : (comparison a b).equal ≡ true → comparison a b ≡ both_compared true
-    both_equal e = sym (same-compared a b (judged-accepted a v ev) (sym e))
+    pub both_equal : (comparison d b).equal ≡ true → comparison a b ≡ both_compared true
+    both_equal e = sym (same-compared a b first (sym (ap (λ (s : List ℕ). (comparison s b).equal) (sym same) ∙ e)))
 
-    pub both_differ : (w : Step) → Ok w ≡ counted row_count (checked b) → (comparison a b).equal ≡ false → comparison a b ≡ both_compared false
-    both_differ w ew e = sym (differ-compared a b (judged-accepted a v ev) (judged-accepted b w ew) (sym e))
+    pub both_differ : (w : Step) → Ok w ≡ counted row_count (checked b) → (comparison d b).equal ≡ false → comparison a b ≡ both_compared false
+    both_differ w ew e = sym (differ-compared a b first (judged-accepted b w ew) (sym (ap (λ (s : List ℕ). (comparison s b).equal) (sym same) ∙ e)))
 
-pub ruleset compare_laws = (judged-place, judged-accepted, first_refused, second_refused, both_equal, both_differ)
+pub refused_low : (s : List ℕ) (r : Refusal) → checked s ≡ refused r.number r.place → r.place ≤ descriptor_limit
+refused_low s r e = refused-place s r.number r.place e
 
-pub ruleset equal_laws = (lengths_differ, walk-decides, same-compared-bytes, front-whole, top-inside, no_tells)
+pub ruleset compare_laws = (judged-place, refused_low, first_refused, second_refused, both_equal, both_differ)
+
+-- the same of an accepted descriptor a
+module _ (a b : List ℕ) (known : is_read (checked a) ≡ true) where
+  pub equal_bytes : a ≡ b → true ≡ (comparison a b).equal
+  equal_bytes e = same-compared-bytes a b (accepted_of a known) e
+
+  pub equal_inside : RowInside a 1 0 (length a) depth_limit
+  equal_inside = let it = accepted_of a known in top-inside a it.at it.tree it.eq
+
+  module _ (bytes_a : (n : ℕ) → get_or a n 0 < 256) (bytes_b : (n : ℕ) → get_or b n 0 < 256) where
+    pub equal_lengths : (length a ≡ length b → ⊥) → false ≡ (comparison a b).equal
+    equal_lengths h = lengths_differ a b (accepted_of a known) bytes_a bytes_b h
+
+    pub equal_walk : length a ≡ length b → same_within a b 1 0 (length a) ≡ (comparison a b).equal
+    equal_walk h = walk-decides a b (accepted_of a known) bytes_a bytes_b h
+
+pub ruleset equal_laws = (equal_lengths, equal_walk, equal_bytes, front-whole, equal_inside, no_tells)
 
 -- the normal form, by the step of the check
 module _ (d out : List ℕ) where

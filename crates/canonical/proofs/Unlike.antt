@@ -12,8 +12,9 @@ use lib.Seq.{slice, get_or-take, get_or-drop}
 use Rattle.descriptor.specs.Header.{header_size, reserved_at, code_at, body_at, size_in}
 use Rattle.descriptor.specs.Limits.{depth_limit}
 use Rattle.descriptor.specs.Encoding.{Bytes}
+use Rattle.descriptor.specs.Check.{checked}
 use Rattle.descriptor.specs.inner.Promises.{addressable}
-use Rattle.descriptor.specs.inner.Standing.{Stands, inside_of}
+use Rattle.descriptor.specs.inner.Standing.{Stands, is_read, inside_of}
 use Rattle.descriptor.specs.declared.inside.Inside.{Inside}
 use Rattle.descriptor.proofs.Steps.{impossible}
 use Rattle.canonical.specs.inner.Walk.{RowInside, Accepted, Telling, same_run, same_within}
@@ -21,7 +22,7 @@ use Rattle.canonical.proofs.Lists.{bool_same, bytes_of}
 use Rattle.canonical.proofs.Same.{chars-same}
 use Rattle.canonical.proofs.Spelled.{same_none, size-stop, others-stop, leaf-stop, body-stop, inner-stop}
 use Rattle.canonical.proofs.Turns.{Turn, Taken, row-turn, taken, turn-stands}
-use Rattle.canonical.proofs.Whole.{top-inside}
+use Rattle.canonical.proofs.Whole.{accepted_of, top-inside}
 
 -- b is no shorter than a, and has another byte at q
 pub record Unlike (a b : List ℕ) (q : ℕ) : Type 0 where
@@ -164,9 +165,9 @@ module _ (a : List ℕ) (q : ℕ) where
 unfoldable pub Seeking : List ℕ → ℕ → ℕ → ℕ → Type 0
 Seeking a q p k = Sought a q p k
 
-pub seek_begin : (a : List ℕ) (q : ℕ) → Accepted a → ((n : ℕ) → get_or a n 0 < 256) → q < length a → Seeking a q 0 1
+pub seek_begin : (a : List ℕ) (q : ℕ) → is_read (checked a) ≡ true → ((n : ℕ) → get_or a n 0 < 256) → q < length a → Seeking a q 0 1
 unfolding Seeking
-seek_begin a q it bytes within = sought-begin a q it bytes within
+seek_begin a q known bytes within = sought-begin a q (accepted_of a known) bytes within
 
 module _ (a : List ℕ) (q p k : ℕ) (l : Seeking a q p k) where
   pub seek_end : k ≤ 0 → Telling a q false

@@ -1,7 +1,7 @@
 -- Whole descriptors that were accepted: the walks over them decide equality and give the normal form.
 -- Rests on `Same` and on the laws of the encoding: an accepted descriptor spells one tree.
 use mathlib.Core.Path.{◌≡◌, refl, sym, ap, ◌∙◌}
-use mathlib.Core.Bool.{true, false}
+use mathlib.Core.Bool.{Bool, true, false}
 use mathlib.Core.List.{List, [], ◌++◌, append-nil}
 use Prim.Native.Nat.{ℕ}
 use native.Mathlib.Omega.{arith}
@@ -10,9 +10,9 @@ use lib.Seq.{slice, slice_empty, take-length}
 use Rattle.descriptor.specs.Limits.{depth_limit}
 use Rattle.descriptor.specs.Tree.{Tree, nil, cons, tree_size, forest_height}
 use Rattle.descriptor.specs.Encoding.{encode_with, forest_with, encode, Bytes}
-use Rattle.descriptor.specs.Outcome.{read}
+use Rattle.descriptor.specs.Outcome.{Outcome, refused, read}
 use Rattle.descriptor.specs.Check.{members_at, checked}
-use Rattle.descriptor.specs.inner.Standing.{standing, standing_row, next_of, forest_of}
+use Rattle.descriptor.specs.inner.Standing.{standing, standing_row, is_read, next_of, forest_of}
 use Rattle.descriptor.proofs.Standing.{standing-ends, standing-low, accepted-standing}
 use Rattle.descriptor.proofs.Steps.{impossible}
 use Rattle.encoding.proofs.Slices.{slice_all}
@@ -21,7 +21,7 @@ use Rattle.descriptor.specs.Header.{reserved_in}
 use Rattle.encoding.proofs.Sound.{read-sound}
 use Rattle.encoding.proofs.Accepted.{accepted-spells, spells-accepted}
 use Rattle.canonical.specs.Equality.{same_chars, same_tree}
-use Rattle.canonical.specs.inner.Walk.{RowInside, respelled, same_within, clear_forest}
+use Rattle.canonical.specs.inner.Walk.{Accepted, RowInside, respelled, same_within, clear_forest}
 use Rattle.canonical.proofs.Same.{chars-same, chars-refl, same-tree, same_refl}
 use Rattle.canonical.proofs.Lists.{bool_same}
 use Rattle.canonical.proofs.Turns.{row_inside}
@@ -126,3 +126,12 @@ module _ (d out : List ℕ) (bytes : Bytes d) (q : ℕ) (t : Tree) (e : checked 
       (λ i. clear_forest 0 (forest_of (top-row d q t e i)) (spelled i ++ rest))
       ∙ clear-forest (reserved_in d) (cons t nil) 0 [] rest refl
       ∙ (λ i. append-nil (encode t) i ++ drop (sym normal-length i) out)
+
+-- an accepted descriptor has its tree
+pub accepted_of : (s : List ℕ) → is_read (checked s) ≡ true → Accepted s
+unfolding is_read
+accepted_of s e = go (checked s) refl e
+  where
+    go : (o : Outcome Tree) → checked s ≡ o → is_read o ≡ true → Accepted s
+    go (refused number place) h e = impossible e
+    go (read at t) h e = record { at = at; tree = t; eq = h }

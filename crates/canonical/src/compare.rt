@@ -2,7 +2,7 @@
 ghost use Rattle.std.specs.Prelude.{◌≡◌, ◌≤◌, ◌<◌, ◌^◌, length};
 ghost use Rattle.descriptor.specs.Faults.{input_of};
 ghost use Rattle.canonical.specs.Equality.{not_compared, both_compared, comparison};
-ghost use Rattle.canonical.specs.inner.Walk.{Both, RowInside, Accepted, SameFront, FirstDifference, Telling, same_run, same_within};
+ghost use Rattle.canonical.specs.inner.Walk.{Both, RowInside, SameFront, FirstDifference, Telling, same_run, same_within};
 
 use super::Compared;
 use descriptor::answer::{Answer, Input};
@@ -11,6 +11,7 @@ use descriptor::inside::inside_of;
 use descriptor::limits::DEPTH_LIMIT;
 use descriptor::refusal::Refusal;
 use number::endian::read_le;
+use validation::accepted::Descriptor;
 use validation::validate::validate;
 
 // Whether a and b hold the same bytes from `from` up to `to`.
@@ -87,15 +88,15 @@ pub fn first_difference(a: &[u8], b: &[u8]) -> usize
 // Whether the byte at q is the reserved byte of the accepted descriptor a or of one in it. Else bytes that differ there are not equal
 // descriptors. Only the descriptors that q stands in are opened.
 #[tactic(auto, using(crate::proofs::Unlike::seeking))]
-fn is_reserved(a: &[u8], q: usize) -> bool
-    requires accepted { Accepted a.now }
-    requires q_in_bounds { q < length a.now }
-    ensures { Telling a.now q result }
+fn is_reserved(a: Descriptor, q: usize) -> bool
+    requires { q < length a.bytes.now }
+    ensures { Telling a.entry.bytes.now q result }
 {
+    let d = a.bytes;
     let mut p = 0;
     let mut k = 1;
     while 0 < k {
-        let end = p + size_at(a, p);
+        let end = p + size_at(d, p);
         if end <= q {
             p = end;
             k -= 1;
@@ -103,7 +104,7 @@ fn is_reserved(a: &[u8], q: usize) -> bool
             if q == reserved_at(p) {
                 return true;
             }
-            let f = inside_of(a, p);
+            let f = inside_of(d, p);
             if f.children == 0 || q < f.at {
                 return false;
             }
@@ -117,15 +118,15 @@ fn is_reserved(a: &[u8], q: usize) -> bool
 // Whether b is a descriptor equal to the accepted descriptor a: as long as a, and the same but for the reserved bytes of a. Nothing is
 // asked of b: bytes that are so are a descriptor with a's tree. The first byte that is not the same decides, unless it is a reserved one.
 #[tactic(auto, using(crate::proofs::Judged::equal_laws))]
-pub fn same_as_accepted(a: &[u8], b: &[u8]) -> bool
-    requires { Accepted a.now }
-    ensures { result ≡ (comparison a.now b.now).equal }
+pub fn same_as_accepted(a: Descriptor, b: &[u8]) -> bool
+    ensures { result ≡ (comparison a.entry.bytes.now b.now).equal }
 {
-    if a.len() != b.len() {
+    let d = a.bytes;
+    if d.len() != b.len() {
         return false;
     }
-    let q = first_difference(a, b);
-    q == a.len() || is_reserved(a, q) && same_within(a, b, 1, 0, a.len(), DEPTH_LIMIT)
+    let q = first_difference(d, b);
+    q == d.len() || is_reserved(a, q) && same_within(d, b, 1, 0, d.len(), DEPTH_LIMIT)
 }
 
 // The answer for an input that is no descriptor.
@@ -155,10 +156,11 @@ fn both_compared(equal: bool) -> Compared
 pub fn compare(first: &[u8], second: &[u8]) -> Compared
     ensures { result ≡ comparison first.now second.now }
 {
-    if let Err(refusal) = validate(first) {
-        return not_compared(refusal, Input::First);
-    }
-    if same_as_accepted(first, second) {
+    let accepted = match Descriptor::try_from(first) {
+        Ok(accepted) => accepted,
+        Err(refusal) => return not_compared(refusal, Input::First),
+    };
+    if same_as_accepted(accepted, second) {
         return both_compared(true);
     }
     if let Err(refusal) = validate(second) {

@@ -1,5 +1,5 @@
 // Descriptors that are accepted.
-ghost use Rattle.std.specs.Prelude.{◌≡◌, true, MatchResult};
+ghost use Rattle.std.specs.Prelude.{◌≡◌, ◌<◌, true, ℕ, MatchResult, slice_index};
 ghost use Rattle.descriptor.specs.Outcome.{refused};
 ghost use Rattle.descriptor.specs.Check.{checked};
 ghost use Rattle.descriptor.specs.inner.Standing.{is_read};
@@ -12,6 +12,7 @@ use descriptor::refusal::Refusal;
 pub struct Descriptor<'a> {
     pub bytes: &'a [u8],
     pub ghost accepted: { is_read (checked bytes.now) ≡ true },
+    pub ghost small: { (k : ℕ) → slice_index bytes.now k < 256 },
 }
 
 // The bytes as a descriptor, or their first refusal.

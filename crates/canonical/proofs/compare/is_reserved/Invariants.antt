@@ -5,7 +5,7 @@ use Rattle.canonical.proofs.Unlike.{Seeking}
 use Rattle.canonical.proofs.compare.is_reserved.Given as goal
 
 abbrev pub invariant-loop-k : goal.invariant-loop-k
-invariant-loop-k l = Seeking l.a l.q l.p l.k
+invariant-loop-k l = Seeking l.d l.q l.p l.k
 
 abbrev pub decreases-loop-k : goal.decreases-loop-k
-decreases-loop-k l = length l.a - l.p
+decreases-loop-k l = length l.d - l.p
