@@ -8,7 +8,7 @@ use super::roster::Roster;
 use number::endian::{be32, read_be};
 
 // The members of a roster, chained. In `heads` is the last of each mark, in `links` the one of the same mark before each member, both counted
-// from 1, 0 being none.
+// from 1, 0 being none, as a new column is of zeros; `member` gives an `Option`.
 #[derive(Clone, Copy)]
 pub struct Chains<'a> {
     pub roster: Roster<'a>,

@@ -11,7 +11,8 @@ use descriptor::answer::Row;
 use descriptor::header::size_at;
 use descriptor::inside::inside_of;
 
-// The members of the cluster d, in columns that are lent: where each one's descriptor stands, and where its name does, 0 where it has none.
+// The members of the cluster d, in columns that are lent: where each one's descriptor stands, and where its name does. Where it has none there
+// is 0, as a new column is of zeros; `name` gives an `Option`.
 #[derive(Clone, Copy)]
 pub struct Roster<'a> {
     pub d: &'a [u8],

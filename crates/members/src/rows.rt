@@ -27,11 +27,11 @@ fn row_end(d: &[u8], k: usize, start: usize) -> usize
     p
 }
 
-// The place of the name of the member whose descriptor stands at p, 0 where it has none.
+// The place of the name of the member whose descriptor stands at p, 0 where it has none, as its row and a column of places have it.
 #[tactic(auto, using(crate::proofs::Single::single_laws))]
 pub fn name_place(d: &[u8], p: usize, size: usize) -> u16
     requires inner { Inner d.now p }
-    requires size_value { size ≡ size_in d.now p }
+    requires sized { size ≡ size_in d.now p }
     ensures { result ≡ (row_of p 2 (type_at d.now p)).name_place }
 {
     let inside = shape(d, p, p + size);

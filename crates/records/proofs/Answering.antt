@@ -3,7 +3,7 @@
 use mathlib.Core.Path.{◌≡◌, refl, sym, ap, subst, ◌∙◌}
 use mathlib.Core.Bool.{true, false}
 use mathlib.Core.List.{List, ◌++◌}
-use Prim.Native.Nat.{ℕ, ◌+◌, ◌≤◌, ◌<◌, ◌^◌}
+use Prim.Native.Nat.{ℕ, ◌+◌, ◌≤◌, ◌<◌}
 use Rattle.std.specs.Prelude.{Ok, Err}
 use native.Mathlib.Omega.{arith}
 use borrow.Author.Tests.{leb-true, le-leb, lt-leb}
@@ -171,9 +171,6 @@ module _ (w s starts : List ℕ) (reader : Roster) (ready : Ready w s starts rea
       pub ready-lost : unwritten out x.number 2 x.place ≡ resolved w r s out
       ready-lost = sym (joined ∙ ap joining (lost.is s ready.column))
 
-      pub ready-place : x.place < 2 ^ 32
-      ready-place = omega (arith, lost.place, reader.listed.members.few)
-
     -- or none
     module _ (picks : List ℕ) (total : ℕ) (plan : Planned w k r n starts picks total) where
       abbrev bytes : List ℕ
@@ -181,9 +178,6 @@ module _ (w s starts : List ℕ) (reader : Roster) (ready : Ready w s starts rea
 
       pub ready-long : length bytes ≡ total
       ready-long = plan.long s ready-in
-
-      pub ready-total : total < 2 ^ 32
-      ready-total = omega (arith, plan.most, reader.listed.members.few)
 
       all : resolved w r s out ≡ written_to out bytes
       all = joined ∙ ap joining (plan.is s ready.column)

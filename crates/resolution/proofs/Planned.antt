@@ -110,9 +110,6 @@ module _ (w : List ℕ) (k : ℕ) (r : List ℕ) (n : ℕ) (reading called start
 
       -- is read from member i
       module _ (i : ℕ) (pick : Picked w k (type_at r q) j i) where
-        pub plan-order : get_or starts i 0 ≤ get_or starts (i + 1) 0
-        plan-order = ascends.order i pick.within
-
         pub plan-short : get_or starts (i + 1) 0 ≤ data_limit
         plan-short = ascends.short (i + 1) (omega (arith, pick.within))
 

@@ -23,10 +23,7 @@ pub fn check_names(roster: &Roster) -> Result<(), Refusal>
         let Some(name) = roster.name(j) else {
             return Err(Fault::Reader.at(j));
         };
-        if name.is_empty() {
-            return Err(Fault::Reader.at(j));
-        }
-        if chains.last_namesake(chains.links[j], name).is_some() {
+        if name.is_empty() || chains.last_namesake(chains.links[j], name).is_some() {
             return Err(Fault::Reader.at(j));
         }
     }
