@@ -1,6 +1,6 @@
 // Entries: where they stand, what each says, and which of them has an identifier.
 ghost use Rattle.std.specs.Prelude.{◌≡◌, ◌+◌, ◌≤◌, ◌<◌, length};
-ghost use Rattle.store.specs.Layout.{entry_place};
+ghost use Rattle.store.specs.Layout.{book_limit, entry_place};
 ghost use Rattle.store.specs.inner.Entries.{entry_in, name_at, Sought};
 ghost use Rattle.store.specs.inner.Blanks.{Lays};
 
@@ -27,12 +27,12 @@ pub struct Entry {
     pub second: u32,
 }
 
-// The first entries of a book, so many, which lie in its bytes.
+// The first entries of a book, so many: they lie in its bytes, of which there are no more than a book has.
 #[derive(Clone, Copy)]
 pub struct Entries<'a> {
     pub bytes: &'a [u8],
     pub count: usize,
-    pub ghost few: { count ≤ 65535 },
+    pub ghost short: { length bytes.now ≤ book_limit },
     pub ghost inside: { entry_place count ≤ length bytes.now },
 }
 
