@@ -2,22 +2,21 @@
 use mathlib.Core.Path.{◌≡◌, refl, sym, ap, ◌∙◌}
 use mathlib.Core.List.{List, ◌∷◌, ◌++◌, append_assoc}
 use Prim.Native.Nat.{ℕ, zero, suc, ◌+◌, ◌-◌, ◌≤◌, ◌<◌}
-use native.Mathlib.Nat.{sub-zero}
 use native.Mathlib.Omega.{arith}
 use lib.ListN.{length, set, length-set, length-append}
 use lib.Seq.{set_at}
 use Rattle.number.proofs.Writing.{length-be_bytes}
-use Rattle.descriptor.specs.Header.{reserved_at}
+use Rattle.descriptor.specs.Header.{reserved_at, size_in}
 use Rattle.descriptor.specs.Tree.{Tree, node, Forest, nil, cons, inside_at, tree_size}
 use Rattle.descriptor.specs.Encoding.{word, field_bytes, name_bytes, encode_with, forest_with}
 use Rattle.descriptor.specs.Outcome.{Outcome}
-use Rattle.descriptor.specs.inner.Standing.{standing_row, forest_of}
+use Rattle.descriptor.specs.inner.Standing.{standing_row, forest_of, inside_of}
 use Rattle.descriptor.specs.declared.inside.Inside.{Inside}
 use Rattle.descriptor.proofs.Runs.{one_less, none_left}
 use Rattle.descriptor.proofs.Standing.{row-none}
 use Rattle.encoding.proofs.Lengths.{fields-length, tree-length}
 use Rattle.canonical.specs.inner.Walk.{RowInside, clear_tree, clear_forest}
-use Rattle.canonical.proofs.Turns.{Turn, Taken, row-begin, row_more}
+use Rattle.canonical.proofs.Turns.{Taken, InRow, there, row-wider, row_laws}
 
 mutual
   unfolding clear_tree
@@ -108,42 +107,38 @@ clear-turn s j p stop levels size f out k =
             let at = k.at (omega arith) in
             ap (λ (g : Forest). clear_forest (inside_at p k.turn.body) g x) held ∙ (λ i. clear_forest (sym at i) (forest_of (standing_row s f.children (sym at i))) x)
 
--- What the loop over k descriptors in a row keeps, i of them having gone before: what is cleared from here is what is from the start.
-pub record ClearLoop (s before out : List ℕ) (k start levels p i : ℕ) : Type 0 where
-  pub most : i ≤ k
-  pub inside : RowInside s (k - i) p (length s) levels
-  pub long : length out ≡ length before
-  pub same : clear_forest start (forest_of (standing_row s k start)) before ≡ clear_forest p (forest_of (standing_row s (k - i) p)) out
-
-pub clear-begin : (s out : List ℕ) (k start levels : ℕ) → RowInside s k start (length s) levels → ClearLoop s out out k start levels start 0
-clear-begin s out k start levels row = record {
-  most = omega arith;
-  inside = row-begin s k start (length s) levels row;
-  long = refl;
-  same = ap (λ (n : ℕ). clear_forest start (forest_of (standing_row s n start)) out) (sym (sub-zero k));
-}
-
-module _ (s before out : List ℕ) (k start levels p i : ℕ) (l : ClearLoop s before out k start levels p i) where
-  -- one more is to come
-  pub clear-here : i < k → Turn s (k - (i + 1)) p (length s) levels
-  clear-here more = row_more s k i p (length s) levels more l.inside
-
-  -- and was cleared, with those in it
-  pub clear-on : (size : ℕ) (f : Inside) (out' : List ℕ) → i < k → Taken s (k - (i + 1)) p (length s) levels size f
-      → out' ≡ clear_forest f.at (forest_of (standing_row s f.children f.at)) (set out (reserved_at p) 0)
-      → ClearLoop s before out' k start levels (p + size) (i + 1)
-  clear-on size f out' more t e = record {
-    most = omega arith;
-    inside = t.rest;
-    long = ap length e ∙ clear-length (forest_of (standing_row s f.children f.at)) f.at (set out (reserved_at p) 0) ∙ length-set out (reserved_at p) 0 ∙ l.long;
-    same =
-        l.same
-        ∙ one_less (λ n. clear_forest p (forest_of (standing_row s n p)) out) k i more
-        ∙ clear-turn s (k - (i + 1)) p (length s) levels size f out t
-        ∙ ap (clear_forest (p + size) (forest_of (standing_row s (k - (i + 1)) (p + size)))) (sym e);
-  }
+-- The clearing of k descriptors in a row, i of them having gone before, by what the code has in hand of the next one.
+module _ (s : List ℕ) (k i p : ℕ) (out : List ℕ) where
+  abbrev pub clear_from : List ℕ
+  clear_from = clear_forest p (forest_of (standing_row s (k - i) p)) out
 
   -- none is to come
-  pub clear-end : k ≤ i → out ≡ clear_forest start (forest_of (standing_row s k start)) before
-  clear-end done =
-      sym (l.same ∙ none_left (λ n. clear_forest p (forest_of (standing_row s n p)) out) k i done ∙ clear_none s p out)
+  pub clear_end : k ≤ i → clear_from ≡ out
+  clear_end done = none_left (λ n. clear_forest p (forest_of (standing_row s n p)) out) k i done ∙ clear_none s p out
+
+module _ (s : List ℕ) (k i p levels : ℕ) (out : List ℕ) (row : InRow s (k - i) p (length s) levels) (more : i < k) where
+  next-of : clear_from s k i p out
+      ≡ clear_from s k (i + 1) (p + size_in s p)
+      (clear_forest (inside_of s p).at (forest_of (standing_row s (inside_of s p).children (inside_of s p).at)) (set out (reserved_at p) 0))
+  next-of =
+      one_less (λ n. clear_forest p (forest_of (standing_row s n p)) out) k i more
+      ∙ clear-turn s (k - (i + 1)) p (length s) levels (size_in s p) (inside_of s p) out (there s k i p (length s) levels row more)
+
+  -- one with none in it
+  pub clear_leaf : (inside_of s p).children ≡ 0 → clear_from s k i p out ≡ clear_from s k (i + 1) (p + size_in s p) (set out (reserved_at p) 0)
+  clear_leaf none =
+      next-of ∙ ap (clear_from s k (i + 1) (p + size_in s p)) (clear-childless s (inside_of s p).children (inside_of s p).at (set out (reserved_at p) 0) (omega arith))
+
+  -- one with some in it
+  module _ (some : 0 < (inside_of s p).children) where
+    pub clear_inner : (next : List ℕ) → next ≡ clear_forest (inside_of s p).at (forest_of (standing_row s (inside_of s p).children (inside_of s p).at)) (set out (reserved_at p) 0)
+        → clear_from s k i p out ≡ clear_from s k (i + 1) (p + size_in s p) next
+    clear_inner next e = next-of ∙ ap (clear_from s k (i + 1) (p + size_in s p)) (sym e)
+
+    -- which stand in the whole
+    pub clear_row_in : RowInside s (inside_of s p).children (inside_of s p).at (length s) (levels - 1)
+    clear_row_in =
+        let t = there s k i p (length s) levels row more in
+        row-wider _ _ _ _ _ _ t.fits (omega arith) (t.inside some)
+
+pub ruleset clear_laws = (row_laws, clear_end, clear_leaf, clear_inner, clear_row_in, clear-length, length-set)

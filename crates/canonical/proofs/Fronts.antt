@@ -1,8 +1,8 @@
 -- Bytes that are the same from the front on, and the first that is not. Rests on the laws of numbers: bytes that make the same number are
 -- the same.
-use mathlib.Core.Path.{◌≡◌, refl, sym, ap, ap₂, ◌∙◌}
+use mathlib.Core.Path.{◌≡◌, sym, ap, ap₂, subst, ◌∙◌}
 use mathlib.Core.List.{List, ◌∷◌, ◌++◌}
-use Prim.Native.Nat.{ℕ, ◌+◌, ◌≤◌, ◌<◌}
+use Prim.Native.Nat.{ℕ, ◌+◌, ◌*◌, ◌≤◌, ◌<◌}
 use native.Mathlib.Omega.{arith}
 use lib.ListN.{length, get_or}
 use lib.Seq.{slice, slice_empty}
@@ -12,10 +12,6 @@ use Rattle.encoding.proofs.Slices.{slice-take, slice_all, slice-join, slice-more
 use Rattle.canonical.specs.inner.Walk.{SameFront, FirstDifference}
 
 module _ (a b : List ℕ) where
-  -- nothing is the same
-  pub front-none : SameFront a b 0
-  front-none = record { within = omega arith; same = refl }
-
   module _ (i : ℕ) (front : SameFront a b i) where
     -- n bytes more
     front-more : (n : ℕ) → i + n ≤ length a → slice i (i + n) a ≡ slice i (i + n) b → SameFront a b (i + n)
@@ -48,3 +44,12 @@ module _ (a b : List ℕ) where
     -- bytes of one length that are all the same are equal
     pub front-whole : length a ≡ length b → i ≡ length a → a ≡ b
     front-whole long e = sym (slice_all a i (sym e)) ∙ front.same ∙ slice_all b i (sym long ∙ sym e)
+
+-- eight bytes more, as `same_front` reads them
+pub front_eight : (a b : List ℕ) (n : ℕ) → SameFront a b (8 * n) → ((k : ℕ) → get_or a k 0 < 256) → ((k : ℕ) → get_or b k 0 < 256) → length a ≡ length b
+    → 8 * n + 8 ≤ length a → le a (8 * n) 8 ≡ le b (8 * n) 8 → SameFront a b (8 * (n + 1))
+front_eight a b n front bytes_a bytes_b long room e =
+    let next : 8 * n + 8 ≡ 8 * (n + 1) = omega arith in
+    subst (λ (m : ℕ). SameFront a b m) next (front-number a b (8 * n) front bytes_a bytes_b 8 room (omega arith) e)
+
+pub ruleset front_laws = (front_eight, front-byte, front-all)

@@ -10,6 +10,7 @@ use Rattle.descriptor.specs.Tree.{Name, unnamed, named, Pair, Fields, empty, ite
 use Rattle.descriptor.specs.Encoding.{FieldsFit, WellFormed, AllWellFormed}
 use Rattle.descriptor.proofs.Sizes.{and-true, both_true}
 use Rattle.descriptor.proofs.Steps.{impossible}
+use Rattle.canonical.proofs.Lists.{part_slice}
 use Rattle.canonical.specs.Equality.{same_list, same_chars, same_pair, same_name, items_of, pairs_of, same_fields, same_tree, same_forest}
 
 -- a number is itself
@@ -142,3 +143,6 @@ mutual
   pub same-forest-refl : (f : Forest) → same_forest f f ≡ true
   same-forest-refl nil = refl
   same-forest-refl (cons t f) = both_true (same_refl t) (same-forest-refl f)
+
+-- what a comparison of two parts tells
+pub ruleset run_laws = (part_slice, chars-same, chars-refl)

@@ -4,7 +4,6 @@ use mathlib.Core.Path.{◌≡◌, refl, sym, ap, ap₂, ◌∙◌}
 use mathlib.Core.Bool.{Bool, true, false, ◌&&◌}
 use mathlib.Core.List.{List, ◌∷◌, ◌++◌, append_assoc}
 use Prim.Native.Nat.{ℕ, suc, ◌+◌, ◌-◌, ◌<◌, ◌≤◌}
-use native.Mathlib.Nat.{sub-zero}
 use native.Mathlib.Omega.{arith}
 use lib.ListN.{length, get_or}
 use lib.Seq.{slice, length-slice}
@@ -14,7 +13,7 @@ use Rattle.descriptor.specs.Header.{reserved_at, code_at, size_in}
 use Rattle.descriptor.specs.Tree.{Name, Fields, Tree, node, Forest, nil, child_count, inside_at, tree_size, forest_size}
 use Rattle.descriptor.specs.Encoding.{word, field_bytes, name_bytes, encode_with, forest_with, Bytes}
 use Rattle.descriptor.specs.Outcome.{read}
-use Rattle.descriptor.specs.inner.Standing.{standing, standing_row, next_of, forest_of}
+use Rattle.descriptor.specs.inner.Standing.{standing, standing_row, next_of, forest_of, inside_of}
 use Rattle.descriptor.specs.declared.inside.Inside.{Inside}
 use Rattle.descriptor.proofs.Runs.{one_less, none_left}
 use Rattle.descriptor.proofs.Standing.{row-none}
@@ -23,9 +22,9 @@ use Rattle.encoding.proofs.Lengths.{fields-length, forest-length, tree-length}
 use Rattle.descriptor.specs.Header.{reserved_in}
 use Rattle.encoding.proofs.Sound.{read-sound}
 use Rattle.canonical.specs.Equality.{same_chars}
-use Rattle.canonical.specs.inner.Walk.{RowInside, same_run, respelled, same_within}
+use Rattle.canonical.specs.inner.Walk.{same_run, respelled, same_within}
 use Rattle.canonical.proofs.Lists.{and_assoc, and_last, same-append, same-cons, bytes_of}
-use Rattle.canonical.proofs.Turns.{Turn, Taken, row-begin, row_more}
+use Rattle.canonical.proofs.Turns.{Turn, Taken, InRow, here, there, row_laws}
 
 -- the parts of a descriptor's bytes that its reserved byte and its inner descriptors have no part in
 record Parts (s : List ℕ) (p q c : ℕ) (b : Fields) (f : Forest) (m : Name) : Type 0 where
@@ -197,30 +196,45 @@ module _ (a b : List ℕ) (bytes : Bytes a) (long : length a ≤ length b) where
           → same_within a b (suc j) p stop ≡ same_within a b j (p + size) stop
       inner-on same inner = parent-same ∙ (λ i. same i && (inner i && same_within a b j (p + size) stop))
 
--- What the loop over k descriptors in a row keeps, i of them having gone before: the answer from here is the answer from the start.
-pub record SameLoop (a b : List ℕ) (k start stop levels p i : ℕ) : Type 0 where
-  pub most : i ≤ k
-  pub bytes : Bytes a
-  pub inside : RowInside a (k - i) p stop levels
-  pub same : same_within a b k start stop ≡ same_within a b (k - i) p stop
-
-pub same-begin : (a b : List ℕ) (k start stop levels : ℕ) → ((n : ℕ) → get_or a n 0 < 256) → RowInside a k start stop levels
-    → SameLoop a b k start stop levels start 0
-same-begin a b k start stop levels bytes row = record {
-  most = omega arith;
-  bytes = bytes_of a bytes;
-  inside = row-begin a k start stop levels row;
-  same = ap (λ (n : ℕ). same_within a b n start stop) (sym (sub-zero k));
-}
-
-module _ (a b : List ℕ) (k start stop levels p i : ℕ) (l : SameLoop a b k start stop levels p i) where
-  -- one more is to come
-  pub same_next : i < k → same_within a b k start stop ≡ same_within a b (suc (k - (i + 1))) p stop
-  same_next more = l.same ∙ one_less (λ n. same_within a b n p stop) k i more
-
-  pub same_turn : i < k → Turn a (k - (i + 1)) p stop levels
-  same_turn more = row_more a k i p stop levels more l.inside
+-- The comparison of k descriptors in a row, i of them having gone before, by what the code has in hand of the next one.
+module _ (a b : List ℕ) (k i p stop : ℕ) where
+  abbrev pub same_from : Bool
+  same_from = same_within a b (k - i) p stop
 
   -- none is to come
-  pub same_end : k ≤ i → same_run a b p stop ≡ same_within a b k start stop
-  same_end done = same_none a b p stop ∙ sym (l.same ∙ none_left (λ n. same_within a b n p stop) k i done)
+  pub same_end : k ≤ i → same_run a b p stop ≡ same_from
+  same_end done = same_none a b p stop ∙ sym (none_left (λ n. same_within a b n p stop) k i done)
+
+module _ (a b : List ℕ) (bytes : (n : ℕ) → get_or a n 0 < 256) (long : length a ≤ length b) (k i p stop levels : ℕ) (row : InRow a (k - i) p stop levels) (more : i < k) where
+  next-of : {x : Bool} → same_within a b (suc (k - (i + 1))) p stop ≡ x → same_from a b k i p stop ≡ x
+  next-of e = one_less (λ n. same_within a b n p stop) k i more ∙ e
+
+  abbrev parts-of : Taken a (k - (i + 1)) p stop levels (size_in a p) (inside_of a p)
+  parts-of = there a k i p stop levels row more
+
+  pub size_no : same_run a b p (reserved_at p) ≡ false → same_from a b k i p stop ≡ false
+  size_no e = next-of (size-stop a b (bytes_of a bytes) long (k - (i + 1)) p stop levels (here a k i p stop levels row more) e)
+
+  module _ (sized : same_run a b p (reserved_at p) ≡ true) where
+    -- one with none in it
+    module _ (none : (inside_of a p).children ≡ 0) where
+      pub leaf_no : same_run a b (code_at p) (p + size_in a p) ≡ false → same_from a b k i p stop ≡ false
+      leaf_no e = next-of (leaf-stop a b (bytes_of a bytes) long (k - (i + 1)) p stop levels (size_in a p) (inside_of a p) parts-of sized none e)
+
+      pub leaf_on : same_run a b (code_at p) (p + size_in a p) ≡ true → same_from a b k i p stop ≡ same_from a b k (i + 1) (p + size_in a p) stop
+      leaf_on e = next-of (leaf-on a b (bytes_of a bytes) long (k - (i + 1)) p stop levels (size_in a p) (inside_of a p) parts-of sized none e)
+
+    -- one with some in it
+    module _ (some : 0 < (inside_of a p).children) where
+      pub body_no : same_run a b (code_at p) (inside_of a p).at ≡ false → same_from a b k i p stop ≡ false
+      body_no e = next-of (body-stop a b (bytes_of a bytes) long (k - (i + 1)) p stop levels (size_in a p) (inside_of a p) parts-of sized some e)
+
+      module _ (same : same_run a b (code_at p) (inside_of a p).at ≡ true) where
+        pub inner_no : same_within a b (inside_of a p).children (inside_of a p).at (p + size_in a p) ≡ false → same_from a b k i p stop ≡ false
+        inner_no e = next-of (inner-stop a b (bytes_of a bytes) long (k - (i + 1)) p stop levels (size_in a p) (inside_of a p) parts-of sized some same e)
+
+        pub inner_on : same_within a b (inside_of a p).children (inside_of a p).at (p + size_in a p) ≡ true
+            → same_from a b k i p stop ≡ same_from a b k (i + 1) (p + size_in a p) stop
+        inner_on e = next-of (inner-on a b (bytes_of a bytes) long (k - (i + 1)) p stop levels (size_in a p) (inside_of a p) parts-of sized some same e)
+
+pub ruleset same_laws = (row_laws, same_end, size_no, leaf_no, leaf_on, body_no, inner_no, inner_on)

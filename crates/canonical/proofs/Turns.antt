@@ -7,7 +7,7 @@ use Prim.Native.Nat.{ℕ, suc, ◌+◌, ◌-◌, ◌<◌, ◌≤◌}
 use native.Mathlib.Nat.{sub-zero}
 use native.Mathlib.Omega.{arith}
 use lib.ListN.{length}
-use Rattle.descriptor.specs.Header.{header_size, size_in}
+use Rattle.descriptor.specs.Header.{header_size, body_at, size_in}
 use Rattle.descriptor.specs.Tree.{Name, Fields, empty, items, pairs, text, dimensions, members, subtype, Tree, node, Forest, cons, child_count, inside_at, tree_size, forest_size, height, forest_height}
 use Rattle.descriptor.specs.Outcome.{Outcome, refused, read}
 use Rattle.descriptor.specs.inner.Promises.{addressable}
@@ -109,16 +109,6 @@ module _ (s : List ℕ) (j p stop levels : ℕ) (whole : RowInside s (suc j) p s
       let row = row-split s j p _ _ (row_read (standing_row s (suc j) p) whole.row) in
       turn-tree row.tree row.others row.first row.is row.rest
 
--- the row after i of k descriptors, one of which is still to come
-pub row_more : (s : List ℕ) (k i p stop levels : ℕ) → i < k → RowInside s (k - i) p stop levels → Turn s (k - (i + 1)) p stop levels
-row_more s k i p stop levels lt r =
-    let d : k - i ≡ suc (k - (i + 1)) = omega arith in
-    row-turn s (k - (i + 1)) p stop levels (subst (λ (n : ℕ). RowInside s n p stop levels) d r)
-
--- before the first turn
-pub row-begin : (s : List ℕ) (k p stop levels : ℕ) → RowInside s k p stop levels → RowInside s (k - 0) p stop levels
-row-begin s k p stop levels r = subst (λ (n : ℕ). RowInside s n p stop levels) (sym (sub-zero k)) r
-
 -- a body that has descriptors in it holds nothing else after its words
 starts : (p : ℕ) (b : Fields) → 0 < child_count b → contents_start p b ≡ inside_at p b
 unfolding contents_start child_count
@@ -165,6 +155,69 @@ taken s j p stop levels size f turn es ef =
 pub turn-stands : (s : List ℕ) (j p stop levels : ℕ) → Turn s j p stop levels → Stands s p
 unfolding is_read
 turn-stands s j p stop levels turn = record { is = ap is_read turn.first; small = turn.rest.small }
+
+-- The same as a loop keeps it, i of k descriptors having gone before, and what the code needs of the next one, which stands at p.
+unfoldable pub InRow : List ℕ → ℕ → ℕ → ℕ → ℕ → Type 0
+InRow s k p stop levels = RowInside s k p stop levels
+
+pub row_begin : (s : List ℕ) (k p stop levels : ℕ) → RowInside s k p stop levels → InRow s (k - 0) p stop levels
+unfolding InRow
+row_begin s k p stop levels row = subst (λ (n : ℕ). RowInside s n p stop levels) (sym (sub-zero k)) row
+
+module _ (s : List ℕ) (k i p stop levels : ℕ) (row : InRow s (k - i) p stop levels) where
+  pub row_from : p ≤ stop
+  unfolding InRow
+  row_from = row.from
+
+  pub row_into : stop ≤ length s
+  unfolding InRow
+  row_into = row.inside
+
+  module _ (more : i < k) where
+    pub here : Turn s (k - (i + 1)) p stop levels
+    unfolding InRow
+    here =
+        let d : k - i ≡ suc (k - (i + 1)) = omega arith in
+        row-turn s (k - (i + 1)) p stop levels (subst (λ (n : ℕ). RowInside s n p stop levels) d row)
+
+    abbrev pub held : Inside
+    held = inside_of s p
+
+    pub there : Taken s (k - (i + 1)) p stop levels (size_in s p) held
+    there = taken s (k - (i + 1)) p stop levels (size_in s p) held here refl refl
+
+    pub row_stands : Stands s p
+    row_stands = turn-stands _ _ _ _ _ here
+
+    pub row_header : body_at p ≤ length s
+    row_header = omega (arith, here.least, here.fits, here.rest.inside)
+
+    pub row_least : header_size ≤ size_in s p
+    row_least = here.least
+
+    pub row_whole : p + size_in s p ≤ stop
+    row_whole = here.fits
+
+    pub row_small : length s < addressable
+    row_small = here.rest.small
+
+    pub row_deep : 0 < levels
+    row_deep = here.deep
+
+    -- the descriptors in it
+    module _ (some : 0 < held.children) where
+      pub row_held : RowInside s held.children held.at (p + size_in s p) (levels - 1)
+      row_held = there.inside some
+
+      pub row_order : body_at p ≤ held.at
+      row_order = omega (arith, there.at some)
+
+    -- and those after it
+    pub row_after : InRow s (k - (i + 1)) (p + size_in s p) stop levels
+    unfolding InRow
+    row_after = there.rest
+
+pub ruleset row_laws = (row_begin, row_from, row_into, row_stands, row_header, row_least, row_whole, row_small, row_deep, row_held, row_order, row_after)
 
 -- a row that ends within `stop` ends within more
 pub row-wider : (s : List ℕ) (k start stop more levels : ℕ) → stop ≤ more → more ≤ length s → RowInside s k start stop levels

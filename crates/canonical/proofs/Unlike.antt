@@ -9,16 +9,18 @@ use borrow.Author.Tests.{ltb-true, ltb-false}
 use lib.Dec.{ltb}
 use lib.ListN.{length, get_or, take}
 use lib.Seq.{slice, get_or-take, get_or-drop}
-use Rattle.descriptor.specs.Header.{reserved_at, code_at, size_in}
+use Rattle.descriptor.specs.Header.{header_size, reserved_at, code_at, body_at, size_in}
 use Rattle.descriptor.specs.Limits.{depth_limit}
 use Rattle.descriptor.specs.Encoding.{Bytes}
+use Rattle.descriptor.specs.inner.Promises.{addressable}
+use Rattle.descriptor.specs.inner.Standing.{Stands, inside_of}
 use Rattle.descriptor.specs.declared.inside.Inside.{Inside}
 use Rattle.descriptor.proofs.Steps.{impossible}
 use Rattle.canonical.specs.inner.Walk.{RowInside, Accepted, Telling, same_run, same_within}
 use Rattle.canonical.proofs.Lists.{bool_same, bytes_of}
 use Rattle.canonical.proofs.Same.{chars-same}
 use Rattle.canonical.proofs.Spelled.{same_none, size-stop, others-stop, leaf-stop, body-stop, inner-stop}
-use Rattle.canonical.proofs.Turns.{Turn, Taken, row-turn}
+use Rattle.canonical.proofs.Turns.{Turn, Taken, row-turn, taken, turn-stands}
 use Rattle.canonical.proofs.Whole.{top-inside}
 
 -- b is no shorter than a, and has another byte at q
@@ -91,7 +93,7 @@ module _ (a : List ℕ) (q : ℕ) where
     pub to : q < stop
     pub tells : (b : List ℕ) → Unlike a b q → same_within a b k p stop ≡ false → same_within a b 1 0 (length a) ≡ false
 
-  pub sought-begin : Accepted a → ((n : ℕ) → get_or a n 0 < 256) → q < length a → Sought 0 1
+  sought-begin : Accepted a → ((n : ℕ) → get_or a n 0 < 256) → q < length a → Sought 0 1
   sought-begin it bytes within = record {
     stop = length a;
     levels = depth_limit;
@@ -102,10 +104,6 @@ module _ (a : List ℕ) (q : ℕ) where
     tells = λ b unlike e. e;
   }
 
-  -- a yes tells nothing
-  pub telling-yes : Telling a q true
-  telling-yes = record { told = λ e. impossible (sym e) }
-
   module _ (p k : ℕ) (l : Sought p k) where
     telling-no : ((b : List ℕ) → Unlike a b q → same_within a b k p l.stop ≡ false) → Telling a q false
     telling-no each = record {
@@ -113,7 +111,7 @@ module _ (a : List ℕ) (q : ℕ) where
     }
 
     -- none is left: q is in the bytes after them
-    pub sought-end : k ≤ 0 → Telling a q false
+    sought-end : k ≤ 0 → Telling a q false
     sought-end h = telling-no (λ b unlike. ap (λ (n : ℕ). same_within a b n p l.stop) none ∙ sym (same_none a b p l.stop) ∙ run-differs b unlike p l.stop l.from l.to)
       where
         none : k ≡ 0
@@ -123,14 +121,14 @@ module _ (a : List ℕ) (q : ℕ) where
       more : k ≡ suc (k - 1)
       more = omega arith
 
-      pub sought-turn : Turn a (k - 1) p l.stop l.levels
+      sought-turn : Turn a (k - 1) p l.stop l.levels
       sought-turn = row-turn a (k - 1) p l.stop l.levels (subst (λ (n : ℕ). RowInside a n p l.stop l.levels) more l.inside)
 
       here : (b : List ℕ) → same_within a b (suc (k - 1)) p l.stop ≡ false → same_within a b k p l.stop ≡ false
       here b e = ap (λ (n : ℕ). same_within a b n p l.stop) more ∙ e
 
       -- q is after the first
-      pub sought-past : (end : ℕ) → end ≡ p + size_in a p → end ≤ q → Sought end (k - 1)
+      sought-past : (end : ℕ) → end ≡ p + size_in a p → end ≤ q → Sought end (k - 1)
       sought-past end ends h = rw ends (record {
         stop = l.stop;
         levels = l.levels;
@@ -143,15 +141,15 @@ module _ (a : List ℕ) (q : ℕ) where
 
       -- q is in the first, and not its reserved byte
       module _ (size : ℕ) (f : Inside) (t : Taken a (k - 1) p l.stop l.levels size f) (other : q ≡ reserved_at p → ⊥) (within : q < p + size) where
-        pub sought-leaf : f.children ≡ 0 → Telling a q false
+        sought-leaf : f.children ≡ 0 → Telling a q false
         sought-leaf none =
             telling-no (λ b unlike. here b (leaf-no l.bytes (k - 1) p l.stop l.levels size f t l.from other b unlike within none))
 
-        pub sought-body : 0 < f.children → q < f.at → Telling a q false
+        sought-body : 0 < f.children → q < f.at → Telling a q false
         sought-body inner h =
             telling-no (λ b unlike. here b (body-no l.bytes (k - 1) p l.stop l.levels size f t l.from other b unlike inner h))
 
-        pub sought-inside : 0 < f.children → f.at ≤ q → Sought f.at f.children
+        sought-inside : 0 < f.children → f.at ≤ q → Sought f.at f.children
         sought-inside inner h = record {
           stop = p + size;
           levels = l.levels - 1;
@@ -161,3 +159,60 @@ module _ (a : List ℕ) (q : ℕ) where
           to = within;
           tells = λ b unlike e. l.tells b unlike (here b (inner-no l.bytes (k - 1) p l.stop l.levels size f t l.from other b unlike inner e));
         }
+
+-- The search as its loop keeps it, and each of its turns by what the code has in hand.
+unfoldable pub Seeking : List ℕ → ℕ → ℕ → ℕ → Type 0
+Seeking a q p k = Sought a q p k
+
+pub seek_begin : (a : List ℕ) (q : ℕ) → Accepted a → ((n : ℕ) → get_or a n 0 < 256) → q < length a → Seeking a q 0 1
+unfolding Seeking
+seek_begin a q it bytes within = sought-begin a q it bytes within
+
+module _ (a : List ℕ) (q p k : ℕ) (l : Seeking a q p k) where
+  pub seek_end : k ≤ 0 → Telling a q false
+  unfolding Seeking
+  seek_end = sought-end a q p k l
+
+  module _ (some : 0 < k) where
+    pub seek_stands : Stands a p
+    unfolding Seeking
+    seek_stands = turn-stands _ _ _ _ _ (sought-turn a q p k l some)
+
+    pub seek_header : body_at p ≤ length a
+    unfolding Seeking
+    seek_header = let turn = sought-turn a q p k l some in omega (arith, turn.least, turn.fits, turn.rest.inside)
+
+    pub seek_least : header_size ≤ size_in a p
+    unfolding Seeking
+    seek_least = (sought-turn a q p k l some).least
+
+    pub seek_small : p + size_in a p < addressable
+    unfolding Seeking
+    seek_small = let turn = sought-turn a q p k l some in omega (arith, turn.fits, turn.rest.inside, turn.rest.small)
+
+    pub seek_past : (end : ℕ) → end ≡ p + size_in a p → end ≤ q → Seeking a q end (k - 1)
+    unfolding Seeking
+    seek_past end ends h = sought-past a q p k l some end ends h
+
+    module _ (other : q ≡ reserved_at p → ⊥) (within : q < p + size_in a p) where
+      abbrev held : Inside
+      held = inside_of a p
+
+      pub seek_leaf : held.children ≡ 0 → Telling a q false
+      unfolding Seeking
+      seek_leaf none = sought-leaf a q p k l some _ _ (taken _ _ _ _ _ _ _ (sought-turn a q p k l some) refl refl) other within none
+
+      module _ (inner : 0 < held.children) where
+        pub seek_body : q < held.at → Telling a q false
+        unfolding Seeking
+        seek_body = sought-body a q p k l some _ _ (taken _ _ _ _ _ _ _ (sought-turn a q p k l some) refl refl) other within inner
+
+        pub seek_inside : held.at ≤ q → Seeking a q held.at held.children
+        unfolding Seeking
+        seek_inside = sought-inside a q p k l some _ _ (taken _ _ _ _ _ _ _ (sought-turn a q p k l some) refl refl) other within inner
+
+        pub seek_deeper : p < held.at
+        unfolding Seeking
+        seek_deeper = omega (arith, (taken _ _ _ _ _ _ (inside_of a p) (sought-turn a q p k l some) refl refl).at inner)
+
+pub ruleset seeking = (seek_begin, seek_end, seek_stands, seek_header, seek_least, seek_small, seek_past, seek_leaf, seek_body, seek_inside, seek_deeper)

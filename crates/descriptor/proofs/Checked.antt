@@ -7,7 +7,7 @@ use native.Mathlib.Nat.{sub-zero, zero-sub, suc-sub-suc}
 use native.Mathlib.Omega.{arith}
 use lib.ListN.{length, replicate, drop, length-replicate}
 use lib.Seq.{sets, sets-eq}
-use Rattle.std.specs.Prelude.{Err}
+use Rattle.std.specs.Prelude.{Ok, Err}
 use Rattle.descriptor.specs.Limits.{descriptor_limit, row_limit, depth_limit}
 use Rattle.descriptor.specs.Codes.{kind_of, is_array}
 use Rattle.descriptor.specs.Tree.{Tree, Forest, nil, cons, child_count, row_count, forest_rows, forest_height}
@@ -17,17 +17,16 @@ use Rattle.descriptor.specs.Check.{fields_at, members_at, name_at, node_at, tree
 use Rattle.descriptor.specs.Table.{rows_of, forest_rows_of, zero_row, table_of}
 use Rattle.descriptor.specs.Answers.{refusal, accepted, descriptor_check, with_table}
 use Rattle.descriptor.specs.inner.Standing.{standing, standing_row, is_read, forest_of}
-use Rattle.descriptor.specs.inner.Filling.{zero_rows, ahead, TablePre, filled}
+use Rattle.descriptor.specs.inner.Filling.{zero_rows, empty_table, ahead, TablePre, filled}
 use Rattle.descriptor.specs.inner.Steps.{counted}
 use Rattle.descriptor.specs.declared.refusal.Refusal.{Refusal}
+use Rattle.descriptor.specs.declared.step.Step.{Step}
 use Rattle.descriptor.specs.declared.answer.Row.{Row}
-use Rattle.descriptor.specs.declared.answer.Answer.{Answer}
-use Rattle.descriptor.specs.inner.Filling.{Table}
 use Rattle.descriptor.proofs.Outcomes.{Holds, found, holds_read, holds-require, holds-and_then, holds-self}
 use Rattle.descriptor.proofs.Sizes.{header-fits}
 use Rattle.descriptor.proofs.Rows.{rows-length}
 use Rattle.descriptor.proofs.Standing.{accepted-standing, standing-low}
-use Rattle.descriptor.proofs.Steps.{lost}
+use Rattle.descriptor.proofs.Steps.{Got, got, lost}
 use Rattle.descriptor.proofs.Places.{refused-place}
 
 -- the check of s refused it
@@ -73,10 +72,7 @@ stored rs h =
     ∙ ap (λ (x : List Row). rs ++ x) (ap (λ (j : ℕ). drop j (replicate row_limit zero_row)) z ∙ drop-replicate (length rs) row_limit zero_row)
 
 -- an accepted descriptor, and the table that is filled for it
-module _ (s : List ℕ) (q : ℕ) (t : Tree) (e : checked s ≡ read q t) (rows : List Row) where
-  abbrev pub empty_table : Table
-  empty_table = record { rows = rows; n = 0; at = 0 }
-
+module _ (s : List ℕ) (q : ℕ) (t : Tree) (e : checked s ≡ read q t) where
   alone : standing_row s 1 0 ≡ read q (cons t nil)
   unfolding standing_row members_at
   alone = rw (accepted-standing s q t e).0
@@ -85,37 +81,52 @@ module _ (s : List ℕ) (q : ℕ) (t : Tree) (e : checked s ≡ read q t) (rows 
   unfolding forest_of
   alone-ahead = ap forest_of alone
 
-  pub few-rows : row_count t ≤ row_limit
+  few_rows : row_count t ≤ row_limit
   unfolding standing
-  few-rows = let h = holds_read (accepted-standing s q t e).0 (tree-rows s depth_limit false (length s) 0 0) in omega arith
+  few_rows = let h = holds_read (accepted-standing s q t e).0 (tree-rows s depth_limit false (length s) 0 0) in omega arith
 
-  pub table-begun : TablePre s depth_limit 1 empty_table
+  begun : TablePre s depth_limit 1 empty_table
   unfolding is_read forest_height forest_rows
-  table-begun = record {
+  begun = record {
     stands = ap is_read alone;
     from = omega arith;
     small = omega (arith, (accepted-standing s q t e).1.1);
     deep = omega arith;
     low = subst (λ (f : Forest). forest_height f ≤ depth_limit) (sym alone-ahead) (omega (arith, standing-low s 0 q t (accepted-standing s q t e).0));
-    room = subst (λ (f : Forest). 0 + forest_rows f ≤ row_limit) (sym alone-ahead) (omega (arith, few-rows));
+    room = subst (λ (f : Forest). 0 + forest_rows f ≤ row_limit) (sym alone-ahead) (omega (arith, few_rows));
   }
 
-  pub table_filled : rows ≡ zero_rows → (filled s depth_limit 1 empty_table).rows ≡ table_of (rows_of 0 1 t)
+  table-filled : (filled s depth_limit 1 empty_table).rows ≡ table_of (rows_of 0 1 t)
   unfolding filled forest_rows_of
-  table_filled z =
-      ap (λ (f : Forest). sets rows 0 (forest_rows_of 0 1 f)) alone-ahead
-      ∙ ap (λ (x : List Row). sets rows 0 x) (append-nil (rows_of 0 1 t))
-      ∙ ap (λ (x : List Row). sets x 0 (rows_of 0 1 t)) z
-      ∙ stored (rows_of 0 1 t) (omega (arith, rows-length t 0 1, few-rows))
+  table-filled =
+      ap (λ (f : Forest). sets zero_rows 0 (forest_rows_of 0 1 f)) alone-ahead
+      ∙ ap (λ (x : List Row). sets zero_rows 0 x) (append-nil (rows_of 0 1 t))
+      ∙ stored (rows_of 0 1 t) (omega (arith, rows-length t 0 1, few_rows))
 
-  -- the answer
-  pub check-accepted : (n : ℕ) → n ≡ row_count t → (answer : Answer) → answer ≡ refusal 0 0 n → rows ≡ zero_rows → (v : List Row) → v ≡ (filled s depth_limit 1 empty_table).rows
-      → record { answer = answer; rows = v } ≡ with_table (descriptor_check s)
+-- the same by another name of the table
+pub few-rows : (s : List ℕ) (q : ℕ) (t : Tree) → checked s ≡ read q t → (rows : List Row) → row_count t ≤ row_limit
+few-rows s q t e rows = few_rows s q t e
+
+-- the answer to a check of s, by the step that it came to
+module _ (s : List ℕ) (v : Step) (e : Ok v ≡ counted row_count (checked s)) where
+  accepted-tree : Got row_count (λ _. 0) (checked s) v
+  accepted-tree = got row_count (λ _. 0) (checked s) v e
+
+  pub table_rows : v.value ≤ row_limit
+  table_rows = omega (arith, accepted-tree.counts, few_rows s v.next accepted-tree.value accepted-tree.eq)
+
+  pub table_begun : TablePre s depth_limit 1 empty_table
+  table_begun = begun s v.next accepted-tree.value accepted-tree.eq
+
+  pub check_accepted : with_table (descriptor_check s) ≡ record { answer = accepted v.value; rows = (filled s depth_limit 1 empty_table).rows }
   unfolding descriptor_check
-  check-accepted n en answer ea z v ev =
-      (λ i. record { answer = (ea ∙ ap (λ (j : ℕ). accepted j) en) i; rows = (ev ∙ table_filled z) i }) ∙ rw e refl
+  check_accepted =
+      let tree = accepted-tree in
+      rw tree.eq (λ i. record { answer = accepted (sym tree.counts i); rows = sym (table-filled s v.next tree.value tree.eq) i })
 
-pub check-refused : (s : List ℕ) (number place : ℕ) → checked s ≡ refused number place → (answer : Answer) → answer ≡ refusal number 1 place → (rows : List Row)
-    → rows ≡ zero_rows → record { answer = answer; rows = rows } ≡ with_table (descriptor_check s)
+pub check_refused : (s : List ℕ) (r : Refusal) → Err r ≡ counted row_count (checked s)
+    → with_table (descriptor_check s) ≡ record { answer = refusal r.number 1 r.place; rows = zero_rows }
 unfolding descriptor_check zero_rows table_of
-check-refused s number place e answer ea rows z = (λ i. record { answer = ea i; rows = z i }) ∙ rw e refl
+check_refused s r e = rw (judged-refused s r e) refl
+
+pub ruleset answered = (judged-place, table_rows, table_begun, check_accepted, check_refused)

@@ -173,7 +173,7 @@ pub in-range : (k : Kind) (n low : ℕ) → all_are k n low ≡ true → (c : �
 in-range k n low e c h l = ap kind_is (sym (among k n low e c h l))
 
 -- the kind that the code names so
-unfoldable pub kind_named : CodeKind → Kind
+abbrev pub kind_named : CodeKind → Kind
 kind_named kinds.Plain = plain
 kind_named kinds.Enumeration = enumeration
 kind_named kinds.Quantity = quantity
@@ -185,7 +185,7 @@ kind_named kinds.Unknown = unknown
 
 -- what a code names is the kind
 pub named-is : (k : Kind) → kind_named (kind_is k) ≡ k
-unfolding kind_named kind_is
+unfolding kind_is
 named-is unknown = refl
 named-is plain = refl
 named-is enumeration = refl
@@ -198,3 +198,7 @@ named-is stamp = refl
 -- an answer that names the kind k, and is known to be `name`
 pub known : (r name : CodeKind) (k : Kind) → r ≡ kind_is k → r ≡ name → kind_named name ≡ k
 known r name k e q = ap kind_named (sym q ∙ e) ∙ named-is k
+
+-- the kind of a code by the name that it has in the code
+pub kind_known : (code : ℕ) (r : CodeKind) → r ≡ kind_is (kind_of code) → kind_of code ≡ kind_named r
+kind_known code r e = sym (named-is (kind_of code)) ∙ ap kind_named (sym e)

@@ -99,3 +99,5 @@ module _ (s : List ℕ) (p at stop : ℕ) where
   pub unknown-fields : fields_at unknown s p at stop ≡ refused 5 (code_at p)
   unfolding fields_at fields_read
   unknown-fields = refl
+
+pub ruleset fields_by_kind = (plain-fields, enumeration-fields, quantity-fields, string-fields, array-fields, cluster-fields, stamp-fields, unknown-fields)

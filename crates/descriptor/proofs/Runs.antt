@@ -23,71 +23,74 @@ one_less f k i h = let d : k - i ≡ suc (k - (i + 1)) = omega arith in ap f d
 pub none_left : {A : Type 0} (f : ℕ → A) (k i : ℕ) → k ≤ i → f (k - i) ≡ f 0
 none_left f k i h = let d : k - i ≡ 0 = omega arith in ap f d
 
-module _ (s : List ℕ) (stop : ℕ) where
+-- k Pascal strings packed
+module _ (s : List ℕ) (stop k : ℕ) where
   -- the items from here on, i of them having gone before
-  abbrev pub items_from : ℕ → ℕ → ℕ → Result Step Refusal
-  items_from i k at = counted (λ xs. i + length xs) (items_at s stop k at)
+  abbrev pub items_from : ℕ → ℕ → Result Step Refusal
+  items_from i at = counted (λ xs. i + length xs) (items_at s stop (k - i) at)
 
-  pub record ItemsLoop (k start i at : ℕ) : Type 0 where
-    pub most : i ≤ k
-    pub next : at ≤ stop
-    pub same : counted length (items_at s stop k start) ≡ items_from i (k - i) at
+  -- from the start
+  pub items_begin : (at : ℕ) → counted length (items_at s stop k at) ≡ items_from 0 at
+  items_begin at =
+      counts-agree {A = List (List ℕ)} (λ xs. length xs) (λ xs. 0 + length xs) (λ xs. let e : length xs ≡ 0 + length xs = omega arith in e) (items_at s stop k at)
+      ∙ ap (λ (j : ℕ). counted (λ (xs : List (List ℕ)). 0 + length xs) (items_at s stop j at)) (sym (sub-zero k))
 
-  pub items-begin : (k start : ℕ) → start ≤ stop → ItemsLoop k start 0 start
-  items-begin k start h = record {
-    most = omega arith;
-    next = h;
-    same = counts-agree {A = List (List ℕ)} (λ xs. length xs) (λ xs. 0 + length xs) (λ xs. let e : length xs ≡ 0 + length xs = omega arith in e) (items_at s stop k start) ∙ ap (λ (j : ℕ). items_from 0 j start) (sym (sub-zero k));
-  }
+  module _ (i at : ℕ) where
+    -- none left
+    pub items_none : i ≡ k → items_from i at ≡ Ok (read_step at k 0)
+    unfolding items_at
+    items_none e =
+        let all : i + 0 ≡ k = omega arith in
+        none_left (λ (j : ℕ). counted (λ (xs : List (List ℕ)). i + length xs) (items_at s stop j at)) k i (omega arith) ∙ rw all refl
 
-  -- one more item
-  pub items_more : (k i at : ℕ) → at < stop → at + 1 + get_or s at 0 ≤ stop → items_from i (suc k) at ≡ items_from (i + 1) k (at + 1 + get_or s at 0)
-  unfolding items_at item_at
-  items_more k i at h g = rw (lt-ltb at stop h, le-leb (at + 1 + get_or s at 0) stop g) (go _ (items_at s stop k (at + 1 + get_or s at 0)))
-    where
-      go : (x : List ℕ) (o : Outcome (List (List ℕ)))
-          → counted (λ xs. i + length xs) (and_then o (λ last xs. read last (x ∷ xs))) ≡ counted (λ xs. i + 1 + length xs) o
-      go x (refused number place) = refl
-      go x (read last xs) = let e : i + suc (length xs) ≡ i + 1 + length xs = omega arith in ap (λ (j : ℕ). Ok (read_step last j 0)) e
+    module _ (more : i < k) where
+      -- no room for the next one
+      pub items_over : stop ≤ at → items_from i at ≡ Err (refusal_at 8 stop)
+      unfolding items_at item_at
+      items_over h = one_less (λ (j : ℕ). counted (λ (xs : List (List ℕ)). i + length xs) (items_at s stop j at)) k i more ∙ simp (le-ltb at stop h)
 
-  -- no room for the next item
-  pub items-over : (k i at : ℕ) → stop ≤ at → items_from i (suc k) at ≡ Err (refusal_at 8 stop)
-  unfolding items_at item_at
-  items-over k i at h = simp (le-ltb at stop h)
+      pub items_cut : at < stop → stop < at + 1 + get_or s at 0 → items_from i at ≡ Err (refusal_at 8 stop)
+      unfolding items_at item_at
+      items_cut h g =
+          one_less (λ (j : ℕ). counted (λ (xs : List (List ℕ)). i + length xs) (items_at s stop j at)) k i more
+          ∙ simp (lt-ltb at stop h, lt-leb (at + 1 + get_or s at 0) stop g)
 
-  pub items-cut : (k i at : ℕ) → at < stop → stop < at + 1 + get_or s at 0 → items_from i (suc k) at ≡ Err (refusal_at 8 stop)
-  unfolding items_at item_at
-  items-cut k i at h g = simp (lt-ltb at stop h, lt-leb (at + 1 + get_or s at 0) stop g)
+      -- one more
+      pub items_more : at < stop → at + 1 + get_or s at 0 ≤ stop → items_from i at ≡ items_from (i + 1) (at + 1 + get_or s at 0)
+      unfolding items_at item_at
+      items_more h g =
+          one_less (λ (j : ℕ). counted (λ (xs : List (List ℕ)). i + length xs) (items_at s stop j at)) k i more
+          ∙ rw (lt-ltb at stop h, le-leb (at + 1 + get_or s at 0) stop g) (go _ (items_at s stop (k - (i + 1)) (at + 1 + get_or s at 0)))
+        where
+          go : (x : List ℕ) (o : Outcome (List (List ℕ)))
+              → counted (λ xs. i + length xs) (and_then o (λ last xs. read last (x ∷ xs))) ≡ counted (λ xs. i + 1 + length xs) o
+          go x (refused number place) = refl
+          go x (read last xs) = let e : i + suc (length xs) ≡ i + 1 + length xs = omega arith in ap (λ (j : ℕ). Ok (read_step last j 0)) e
 
-  -- no item left
-  pub items-none : (i at : ℕ) → items_from i 0 at ≡ Ok (read_step at (i + 0) 0)
-  unfolding items_at
-  items-none i at = refl
-
--- a run of k entries of four bytes, each judged by a test: what is judged from here on
-module _ (test : ℕ → Bool) where
-  abbrev pub judged_from : ℕ → ℕ → Result Step Refusal
-  judged_from k at = counted (λ _. 0) (judged test k at)
-
-  pub record RunLoop (k start i at : ℕ) : Type 0 where
-    pub most : i ≤ k
-    pub here : at ≡ start + 4 * i
-    pub same : judged_from k start ≡ judged_from (k - i) at
-
-  pub run-begin : (k start : ℕ) → RunLoop k start 0 start
-  run-begin k start = record { most = omega arith; here = omega arith; same = ap (λ (j : ℕ). judged_from j start) (sym (sub-zero k)) }
-
-  -- an entry that is right, and the others after it
-  pub entry-right : (k at : ℕ) → test at ≡ true → judged_from (suc k) at ≡ judged_from k (at + 4)
-  unfolding judged
-  entry-right k at h = rw h refl
-
-  -- one that is wrong
-  pub entry-wrong : (k at : ℕ) → test at ≡ false → judged_from (suc k) at ≡ Err (refusal_at 10 at)
-  unfolding judged
-  entry-wrong k at h = rw h refl
+-- k entries of four bytes from `start` on, each judged by a test, i of them already
+module _ (test : ℕ → Bool) (k start i : ℕ) where
+  -- what is judged from here on
+  abbrev pub judged_from : Outcome (Unit {0})
+  judged_from = judged test (k - i) (start + 4 * i)
 
   -- none left
-  pub entries_none : (at : ℕ) → judged_from 0 at ≡ Ok (read_step at 0 0)
+  pub entries_none : i ≡ k → judged_from ≡ read (start + 4 * i) tt
   unfolding judged
-  entries_none at = refl
+  entries_none e = none_left (λ (j : ℕ). judged test j (start + 4 * i)) k i (omega arith)
+
+  -- one that does not fit
+  pub entry_wrong : i < k → test (start + 4 * i) ≡ false → judged_from ≡ refused 10 (start + 4 * i)
+  unfolding judged
+  entry_wrong h e = one_less (λ (j : ℕ). judged test j (start + 4 * i)) k i h ∙ rw e refl
+
+-- one that fits, and the others after it
+pub entry_right : (test : ℕ → Bool) (k start i : ℕ) → i < k → test (start + 4 * i) ≡ true → judged_from test k start i ≡ judged_from test k start (i + 1)
+unfolding judged
+entry_right test k start i h e =
+    let next : start + 4 * i + 4 ≡ start + 4 * (i + 1) = omega arith in
+    one_less (λ (j : ℕ). judged test j (start + 4 * i)) k i h ∙ rw (e, next) refl
+
+-- the laws of each loop, for `#[tactic(auto, using(..))]`
+pub ruleset item_steps = (items_begin, items_none, items_over, items_cut, items_more)
+
+pub ruleset entry_steps = (entries_none, entry_wrong, entry_right)

@@ -76,7 +76,7 @@ impl Refusal {
 
 // A row of the descriptor table: "low code byte, start, size, depth, count .., name place .., name length".
 #[repr(C)]
-#[derive(Clone, Copy)]
+#[derive(Clone, Copy, Default)]
 pub struct Row {
     pub code: u16,
     pub start: u16,

@@ -8,15 +8,18 @@ use lib.ListN.{length, get_or, set, replicate, length-set}
 use lib.Seq.{get_or-set_same, get_or-set_other}
 use Rattle.descriptor.specs.Limits.{row_limit, depth_limit}
 use Rattle.descriptor.specs.Tree.{node}
-use Rattle.descriptor.specs.Header.{size_in, code_in}
-use Rattle.descriptor.specs.inner.Standing.{shape_of}
+use Rattle.descriptor.specs.Header.{body_at, size_in, code_in}
+use Rattle.descriptor.specs.inner.Standing.{Stands, is_read, shape_of}
 use Rattle.descriptor.specs.inner.Filling.{zero_rows, row_read, RowPre, TablePre, empty_table, filled}
-use Rattle.tabulation.specs.inner.Opened.{none_open}
 use Rattle.descriptor.specs.declared.inside.Inside.{Inside}
 use Rattle.descriptor.specs.declared.answer.Row.{Row}
 use Rattle.descriptor.specs.inner.Filling.{Table}
 use Rattle.tabulation.specs.declared.table.Open.{Open}
-use Rattle.descriptor.proofs.Filling.{First, after_tree, pre-rest, filled_more, filled_none, low, room, turn-children, turn-row, turn-done}
+use Rattle.descriptor.proofs.Filling.{First, first, after_tree, pre-rest, filled_more, filled_none, low, room, turn-children, turn-row, turn-done}
+
+-- no descriptor, which is what lies in an entry that was not written yet
+abbrev none_open : Open
+none_open = record { n = 0; start = 0; size = 0; count = 0; rest = 0; code = 0 }
 
 -- the depth left for a descriptor with j open above it
 abbrev pub left_at : ℕ → ℕ
@@ -73,21 +76,21 @@ pub record Resuming (s : List ℕ) (goal t : Table) (os : List Open) (level k : 
   pub fits : Fits s os level (filled s (left_at level) k t)
   pub same : goal ≡ resumed s os level (filled s (left_at level) k t)
 
-pub resume-begin : (s : List ℕ) (rows : List Row) → rows ≡ zero_rows → (o : Open) → TablePre s depth_limit 1 empty_table
+pub resume_begin : (s : List ℕ) (rows : List Row) → rows ≡ zero_rows → (o : Open) → TablePre s depth_limit 1 empty_table
     → Resuming s (filled s depth_limit 1 empty_table) (record { rows = rows; n = 0; at = 0 }) (replicate depth_limit o) 0 1
 unfolding Fits resumed
-resume-begin s rows er o pre = subst
+resume_begin s rows er o pre = subst
     (λ (x : List Row). Resuming s (filled s depth_limit 1 empty_table) (record { rows = x; n = 0; at = 0 }) (replicate depth_limit o) 0 1)
     (sym er)
     (record { deep = omega arith; long = refl; pre = pre; fits = refl; same = refl })
 
 -- the same by other names of the two numbers
-pub resume-as : (s : List ℕ) (goal t : Table) (os : List Open) (level k level' k' : ℕ) → Resuming s goal t os level k → level ≡ level' → k ≡ k'
+resume-as : (s : List ℕ) (goal t : Table) (os : List Open) (level k level' k' : ℕ) → Resuming s goal t os level k → level ≡ level' → k ≡ k'
     → Resuming s goal t os level' k'
 resume-as s goal t os level k level' k' r el ek = subst (λ (j : ℕ). Resuming s goal t os j k') el (subst (λ (j : ℕ). Resuming s goal t os level j) ek r)
 
 -- nothing ahead and nothing open
-pub resume-done : (s : List ℕ) (goal t : Table) (os : List Open) → Resuming s goal t os 0 0 → t ≡ goal
+resume-done : (s : List ℕ) (goal t : Table) (os : List Open) → Resuming s goal t os 0 0 → t ≡ goal
 unfolding resumed
 resume-done s goal t os r = sym (r.same ∙ filled_none s (left_at 0) t)
 
@@ -96,11 +99,11 @@ module _ (s : List ℕ) (goal t : Table) (os : List Open) (j : ℕ) (r : Resumin
   here : Fits s os (suc j) t
   here = subst (λ (x : Table). Fits s os (suc j) x) (filled_none s (left_at (suc j)) t) r.fits
 
-  pub close-asks : Closes s j (open_at os j) t
+  close-asks : Closes s j (open_at os j) t
   unfolding Fits
   close-asks = here.0
 
-  pub resume-close : Resuming s goal (closed s j (open_at os j) t) os j (open_at os j).rest
+  resume-close : Resuming s goal (closed s j (open_at os j) t) os j (open_at os j).rest
   unfolding Fits resumed
   resume-close = record {
     deep = omega (arith, r.deep);
@@ -114,11 +117,11 @@ module _ (s : List ℕ) (goal t : Table) (os : List Open) (j : ℕ) (r : Resumin
   depth_is : depth_limit + 1 - left_at j ≡ j + 1
   depth_is = omega (arith, r.deep)
 
-  pub close_row : RowPre s (j + 1) (open_at os j).start (open_at os j).size (open_at os j).count t.at
-  close_row =
+  close-row : RowPre s (j + 1) (open_at os j).start (open_at os j).size (open_at os j).count t.at
+  close-row =
       subst (λ (x : ℕ). RowPre s x (open_at os j).start (open_at os j).size (open_at os j).count t.at) depth_is close-asks.row
 
-  pub resume-row : (x : Row) → x ≡ row_read s (j + 1) (open_at os j).start (open_at os j).code (open_at os j).size (open_at os j).count t.at
+  resume-row : (x : Row) → x ≡ row_read s (j + 1) (open_at os j).start (open_at os j).code (open_at os j).size (open_at os j).count t.at
       → Resuming s goal (record { rows = set t.rows (open_at os j).n x; n = t.n; at = (open_at os j).start + (open_at os j).size }) os j (open_at os j).rest
   resume-row x e =
       subst
@@ -171,12 +174,12 @@ module _ (s : List ℕ) (goal t : Table) (os : List Open) (level k : ℕ) (r : R
   same-depth : depth_limit + 1 - left ≡ level + 1
   same-depth = omega (arith, r.deep)
 
-  pub leaf-row : b.children ≡ 0 → RowPre s (level + 1) t.at size b.count b.at
+  leaf-row : b.children ≡ 0 → RowPre s (level + 1) t.at size b.count b.at
   leaf-row e =
       subst (λ (x : ℕ). RowPre s x t.at size b.count b.at) same-depth
       (subst (λ (x : Table). RowPre s (depth_limit + 1 - left) t.at size b.count x.at) (none_inside e) closes.row)
 
-  pub resume-leaf : b.children ≡ 0 → (x : Row) → x ≡ row_read s (level + 1) t.at code size b.count b.at
+  resume-leaf : b.children ≡ 0 → (x : Row) → x ≡ row_read s (level + 1) t.at code size b.count b.at
       → Resuming s goal (record { rows = set t.rows t.n x; n = t.n + 1; at = t.at + size }) os level k
   resume-leaf e x ex =
       subst (λ (y : Row). Resuming s goal (record { rows = set t.rows t.n y; n = t.n + 1; at = t.at + size }) os level k)
@@ -190,7 +193,7 @@ module _ (s : List ℕ) (goal t : Table) (os : List Open) (level k : ℕ) (r : R
         same = r.same ∙ ap (λ (y : Table). resumed s os level y) more;
       }))
 
-  pub resume-open : Resuming s goal begun (set os level opening) (suc level) b.children
+  resume-open : Resuming s goal begun (set os level opening) (suc level) b.children
   unfolding Fits resumed
   resume-open =
       let deep-left = low s left k t r.pre w in
@@ -207,3 +210,64 @@ module _ (s : List ℕ) (goal t : Table) (os : List Open) (level k : ℕ) (r : R
             r.same ∙ ap (λ (x : Table). resumed s os level x) more ∙ resumed-set s os level opening level (omega arith) _
             ∙ ap (λ (x : Open). resumed s kept level (filled s left x.rest (closed s level x inner))) there;
       }
+
+-- The turns of the loop, by what it has in hand.
+module _ (s : List ℕ) (goal t : Table) (os : List Open) (level k : ℕ) (r : Resuming s goal t os level k) where
+  -- nothing ahead and nothing open
+  pub turn_done : k ≡ 0 → level ≡ 0 → t.rows ≡ goal.rows
+  turn_done ek el = ap (λ (x : Table). x.rows) (resume-done s goal t os (resume-as s goal t os level k 0 0 r el ek))
+
+  -- nothing ahead, and one to close
+  module _ (ek : k ≡ 0) (some : 0 < level) where
+    abbrev last : Open
+    last = open_at os (level - 1)
+
+    closing-one : Resuming s goal t os (suc (level - 1)) 0
+    closing-one = resume-as s goal t os level k (suc (level - 1)) 0 r (omega arith) ek
+
+    pub close_row : RowPre s (level - 1 + 1) last.start last.size last.count t.at
+    close_row = close-row s goal t os (level - 1) closing-one
+
+    pub close_place : last.n < row_limit
+    close_place = (close-asks s goal t os (level - 1) closing-one).place
+
+    pub turn_close : (x : Row) → x ≡ row_read s (level - 1 + 1) last.start last.code last.size last.count t.at
+        → Resuming s goal (record { rows = set t.rows last.n x; n = t.n; at = last.start + last.size }) os (level - 1) last.rest
+    turn_close = resume-row s goal t os (level - 1) closing-one
+
+  -- the first one ahead
+  module _ (more : 0 < k) where
+    ahead-one : Resuming s goal t os level (suc (k - 1))
+    ahead-one = resume-as s goal t os level k level (suc (k - 1)) r refl (omega arith)
+
+    one : First s (left_at level) (k - 1) t
+    one = first s (left_at level) (k - 1) t ahead-one.pre
+
+    pub ahead_stands : Stands s t.at
+    unfolding is_read
+    ahead_stands = record { is = ap is_read one.stands; small = omega (arith, r.pre.small) }
+
+    pub ahead_header : body_at t.at ≤ length s
+    ahead_header = omega (arith, one.opened.size, one.opened.least, one.opened.inside)
+
+    pub ahead_inside : t.at + size_in s t.at ≤ length s
+    ahead_inside = omega (arith, one.opened.size, one.opened.inside)
+
+    pub ahead_room : t.n < row_limit
+    ahead_room = omega (arith, room s (left_at level) (k - 1) t ahead-one.pre one)
+
+    pub ahead_low : level < depth_limit
+    ahead_low = omega (arith, low s (left_at level) (k - 1) t ahead-one.pre one)
+
+    module _ (size : ℕ) (es : size ≡ size_in s t.at) (code : ℕ) (ec : code ≡ code_in s t.at) (b : Inside) (eb : b ≡ shape_of s t.at) where
+      pub leaf_row : b.children ≡ 0 → RowPre s (level + 1) t.at size b.count b.at
+      leaf_row = leaf-row s goal t os level (k - 1) ahead-one one size es code ec b eb
+
+      pub turn_leaf : b.children ≡ 0 → (x : Row) → x ≡ row_read s (level + 1) t.at code size b.count b.at
+          → Resuming s goal (record { rows = set t.rows t.n x; n = t.n + 1; at = t.at + size }) os level (k - 1)
+      turn_leaf = resume-leaf s goal t os level (k - 1) ahead-one one size es code ec b eb
+
+      pub turn_open : Resuming s goal (record { rows = t.rows; n = t.n + 1; at = b.at })
+          (set os level (record { n = t.n; start = t.at; size = size; count = b.count; rest = k - 1; code = code })) (level + 1) b.children
+      turn_open =
+          resume-as s goal _ _ (suc level) b.children (level + 1) b.children (resume-open s goal t os level (k - 1) ahead-one one size es code ec b eb) (omega arith) refl

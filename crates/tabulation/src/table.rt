@@ -2,39 +2,26 @@
 ghost use Rattle.std.specs.Prelude.{◌≡◌, ◌+◌, ◌-◌};
 ghost use Rattle.descriptor.specs.Limits.{depth_limit};
 ghost use Rattle.descriptor.specs.Header.{size_in, code_in};
-ghost use Rattle.descriptor.specs.Table.{zero_row};
 ghost use Rattle.descriptor.specs.inner.Standing.{Stands, shape_of};
 ghost use Rattle.descriptor.specs.inner.Filling.{zero_rows, RowPre, TablePre, row_read, empty_table, filled};
-ghost use Rattle.tabulation.specs.inner.Opened.{none_open};
 
 use descriptor::answer::Row;
 use descriptor::codes::is_enumeration;
 use descriptor::header::{code_at, size_at};
 use descriptor::inside::{Inside, inside_of};
+use descriptor::limits::DEPTH_LIMIT;
 use validation::fields::packed_strings;
 
-fn zero_row() -> Row
-    ensures { result ≡ zero_row }
-{
-    Row {
-        code: 0,
-        start: 0,
-        size: 0,
-        depth: 0,
-        count: 0,
-        name_place: 0,
-        name_length: 0,
-    }
-}
-
 // A zero row repeated.
+#[tactic(auto, unfolding(descriptor::specs::inner::Filling::zero_rows))]
 pub fn zero_rows() -> [Row; 256]
     ensures { result ≡ zero_rows }
 {
-    [zero_row(); 256]
+    [Row::default(); 256]
 }
 
 // The row of the descriptor at p; what is left of it for a name starts at `at`.
+#[tactic(auto, unfolding(descriptor::specs::inner::Filling::row_read))]
 pub fn row_at(
     d: &[u8],
     depth: usize,
@@ -47,61 +34,54 @@ pub fn row_at(
     requires { RowPre d.now depth p size count at }
     ensures { result ≡ row_read d.now depth p code size count at }
 {
-    if at == p + size {
-        return Row {
-            code: code as u16,
-            start: p as u16,
-            size: size as u16,
-            depth: depth as u16,
-            count: count as u16,
-            name_place: 0,
-            name_length: 0,
-        };
-    }
+    let (name_place, name_length) = if at == p + size {
+        (0, 0)
+    } else {
+        ((at + 1) as u16, u16::from(d[at]))
+    };
     Row {
-        code: code as u16,
+        code: u16::from(code),
         start: p as u16,
         size: size as u16,
         depth: depth as u16,
         count: count as u16,
-        name_place: (at + 1) as u16,
-        name_length: d[at] as u16,
+        name_place,
+        name_length,
     }
 }
 
 // What stands inside the accepted descriptor at p, which ends at `stop`, with the first byte after its fields: past an enumeration's items
 // and their fill.
+#[tactic(auto, using(crate::proofs::Items::shape_laws))]
 pub fn shape(d: &[u8], p: usize, stop: usize) -> Inside
     requires stands { Stands d.now p }
     requires stop_value { stop ≡ p + size_in d.now p }
     ensures { result ≡ shape_of d.now p }
 {
-    let b = inside_of(d, p);
-    if !is_enumeration(code_at(d, p)) {
-        return b;
-    }
-    let w = packed_strings(d, stop, b.count, b.at);
-    Inside {
-        at: w.next + (w.next - p) % 2,
-        count: b.count,
-        children: 0,
-    }
+    shape_by(d, p, stop, code_at(d, p))
 }
 
-// The same where the code is in hand: most have no items, and `inside_of` is enough.
-fn row_shape(d: &[u8], p: usize, stop: usize, code: u8) -> Inside
+// The same where the code is in hand.
+#[tactic(auto, using(crate::proofs::Items::shape_laws))]
+fn shape_by(d: &[u8], p: usize, stop: usize, code: u8) -> Inside
     requires stands { Stands d.now p }
-    requires stop_value { (stop ≡ p + size_in d.now p) × (code ≡ code_in d.now p) }
+    requires stop_value { stop ≡ p + size_in d.now p }
+    requires code_value { code ≡ code_in d.now p }
     ensures { result ≡ shape_of d.now p }
 {
-    if is_enumeration(code) {
-        return shape(d, p, stop);
+    let b = inside_of(d, p);
+    if !is_enumeration(code) {
+        return b;
     }
-    inside_of(d, p)
+    let w = packed_strings(d, stop, b.count, b.at).unwrap();
+    Inside {
+        at: w.next + (w.next - p) % 2,
+        ..b
+    }
 }
 
 // A descriptor whose children are being filled: its row's number, what its row says, and how many descriptors stand after it in its row.
-#[derive(Clone, Copy)]
+#[derive(Clone, Copy, Default)]
 pub struct Open {
     pub n: usize,
     pub start: usize,
@@ -111,19 +91,6 @@ pub struct Open {
     pub code: u8,
 }
 
-fn none_open() -> Open
-    ensures { result ≡ none_open }
-{
-    Open {
-        n: 0,
-        start: 0,
-        size: 0,
-        count: 0,
-        rest: 0,
-        code: 0,
-    }
-}
-
 // The rows of an accepted descriptor. The descriptors whose children are being filled lie in `open`, the top first; k stand ahead at `at`
 // in the innermost.
 pub fn tabulate(d: &[u8]) -> [Row; 256]
@@ -131,7 +98,7 @@ pub fn tabulate(d: &[u8]) -> [Row; 256]
     ensures { result ≡ (filled d.now depth_limit 1 empty_table).rows }
 {
     let mut rows = zero_rows();
-    let mut open = [none_open(); 8];
+    let mut open = [Open::default(); DEPTH_LIMIT];
     let mut n = 0;
     let mut at = 0;
     let mut level = 0;
@@ -143,14 +110,13 @@ pub fn tabulate(d: &[u8]) -> [Row; 256]
             }
             level -= 1;
             let o = open[level];
-            let m = o.n;
-            rows[m] = row_at(d, level + 1, o.start, o.code, o.size, o.count, at);
+            rows[o.n] = row_at(d, level + 1, o.start, o.code, o.size, o.count, at);
             at = o.start + o.size;
             k = o.rest;
         } else {
             let size = size_at(d, at);
             let code = code_at(d, at);
-            let b = row_shape(d, at, at + size, code);
+            let b = shape_by(d, at, at + size, code);
             if 0 < b.children {
                 open[level] = Open {
                     n,

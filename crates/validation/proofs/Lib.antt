@@ -1,4 +1,3 @@
 pub mod FieldSteps
 pub mod Members
-pub mod Names
 pub mod Rests

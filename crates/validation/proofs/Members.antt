@@ -1,47 +1,51 @@
--- Descriptors in a row as a step, one by one: what each descriptor comes to by its header, its fields, its children and its name, and
--- what is left to read after it. Rests on the definitions of the check and on `Sizes`.
+-- A row of descriptors as a step, one descriptor after another: what it comes to where a part of the next one is refused, and what is left of
+-- it where all its parts are read. Rests on the definitions of the check, on `Sizes` and on `Rests`.
 use mathlib.Core.Path.{◌≡◌, refl, ap, sym, ◌∙◌}
 use mathlib.Core.Bool.{Bool, true, false, not, ◌||◌}
 use mathlib.Core.List.{List}
 use Prim.Native.Nat.{ℕ, zero, suc, ◌+◌, ◌-◌, ◌<◌, ◌≤◌}
-use native.Mathlib.Nat.{sub-zero}
 use native.Mathlib.Numerals.{sub-one}
 use native.Mathlib.Omega.{arith}
-use borrow.Author.Tests.{eq-eqb, le-leb}
 use lib.ListN.{length}
-use Rattle.descriptor.specs.Limits.{descriptor_limit, depth_limit}
+use Rattle.std.specs.Prelude.{Result, Ok, Err}
+use Rattle.descriptor.specs.Limits.{depth_limit}
 use Rattle.descriptor.specs.Codes.{Kind, kind_of, is_array, is_stamp}
 use Rattle.descriptor.specs.Outcome.{Outcome, refused, read, and_then, require}
-use Rattle.descriptor.specs.Tree.{Name, Fields, Tree, node, Forest, nil, cons, child_count, row_count, forest_rows}
-use Rattle.descriptor.specs.Stamp.{inside_fits}
-use Rattle.descriptor.specs.Check.{Header, header_at, fields_at, members_at, name_at, node_at, tree_at, checked}
-use Rattle.descriptor.specs.inner.Steps.{counted, refused_step, read_step, head_of}
+use Rattle.descriptor.specs.Tree.{Name, Tree, node, Forest, nil, cons, count_of, child_count, row_count, forest_rows}
+use Rattle.descriptor.specs.Table.{length_of_name}
+use Rattle.descriptor.specs.Check.{Header, header_at, fields_at, members_at, name_at, node_at, tree_at}
+use Rattle.descriptor.specs.inner.Standing.{standing_row}
+use Rattle.descriptor.specs.inner.Steps.{counted, fields_step, refusal_at, read_step, read_head, head_of}
 use Rattle.descriptor.specs.inner.Promises.{row_step}
+use Rattle.descriptor.specs.declared.refusal.Refusal.{Refusal}
 use Rattle.descriptor.specs.declared.step.Step.{Step}
 use Rattle.descriptor.specs.declared.header.Head.{Head}
 use Rattle.descriptor.proofs.Outcomes.{Holds, holds_read, holds-require, holds-weaken}
-use Rattle.descriptor.proofs.Sizes.{members-end, tree-ends, name-ends}
+use Rattle.descriptor.proofs.Sizes.{header-fits, HeaderFits, fields-end, members-end, tree-ends, name-ends}
+use Rattle.descriptor.proofs.Standing.{members-standing}
 use Rattle.descriptor.proofs.Runs.{one_less, none_left}
-use Rattle.descriptor.proofs.Steps.{impossible, got}
-use Rattle.validation.specs.inner.Rest.{stamp_at, rest_at}
+use Rattle.descriptor.proofs.Steps.{Got, got, lost}
+use Rattle.validation.specs.inner.Rest.{stamp_at, rest_at, Lies}
+use Rattle.validation.proofs.Rests.{inside-same, inside-lies, stamp-one}
 
--- a head that is ok: the header that was read
-pub record HeadGot (o : Outcome Header) (h : Head) : Type 0 where
-  pub eq : o ≡ read h.body (record { size = h.size; code = h.code })
+-- ---- one descriptor
 
-pub head-got : (o : Outcome Header) (h : Head) → h ≡ head_of o → h.ok ≡ true → HeadGot o h
-head-got (refused number place) h e q = impossible (sym (ap (λ (x : Head). x.ok) e) ∙ q)
-head-got (read body x) h e q = record {
-  eq = λ i. read (sym (ap (λ (y : Head). y.body) e) i) (record { size = sym (ap (λ (y : Head). y.size) e) i; code = sym (ap (λ (y : Head). y.code) e) i });
-}
+-- a head: the header that was read
+head-got : (o : Outcome Header) (h : Head) → Ok h ≡ head_of o → o ≡ read h.body (record { size = h.size; code = h.code })
+head-got (refused number place) h e = cc
+head-got (read body x) h e =
+    let same : h ≡ read_head x.size body x.code = cc in
+    λ i. read (sym (ap (λ (y : Head). y.body) same) i) (record { size = sym (ap (λ (y : Head). y.size) same) i; code = sym (ap (λ (y : Head). y.code) same) i })
 
--- a head that is not: the refusal
-pub head-lost : (o : Outcome Header) (h : Head) → h ≡ head_of o → h.ok ≡ false → o ≡ refused h.number h.place
-head-lost (refused number place) h e q = λ i. refused (sym (ap (λ (x : Head). x.number) e) i) (sym (ap (λ (x : Head). x.place) e) i)
-head-lost (read next x) h e q = impossible (sym q ∙ ap (λ (y : Head). y.ok) e)
+-- or the refusal
+head-lost : (o : Outcome Header) (r : Refusal) → Err r ≡ head_of o → o ≡ refused r.number r.place
+head-lost (refused number place) r e =
+    let same : r ≡ refusal_at number place = cc in
+    λ i. refused (sym (ap (λ (x : Refusal). x.number) same) i) (sym (ap (λ (x : Refusal). x.place) same) i)
+head-lost (read next x) r e = cc
 
 -- a refused header refuses the descriptor
-pub tree-lost : (levels : ℕ) (s : List ℕ) (a : Bool) (end p n number place : ℕ) → header_at s levels a end p n ≡ refused number place
+tree-lost : (levels : ℕ) (s : List ℕ) (a : Bool) (end p n number place : ℕ) → header_at s levels a end p n ≡ refused number place
     → tree_at levels s a end p n ≡ refused number place
 unfolding tree_at
 tree-lost zero s a end p n number place e = rw e
@@ -52,7 +56,7 @@ abbrev below : List ℕ → ℕ → Bool → ℕ → ℕ → ℕ → Outcome Tre
 below s levels a stop q m = tree_at (levels - 1) s a stop q m
 
 -- a header that is read leaves the rest of the descriptor
-pub tree-opened : (levels : ℕ) (s : List ℕ) (a : Bool) (end p n body : ℕ) (h : Header) → 0 < levels → header_at s levels a end p n ≡ read body h
+tree-opened : (levels : ℕ) (s : List ℕ) (a : Bool) (end p n body : ℕ) (h : Header) → 0 < levels → header_at s levels a end p n ≡ read body h
     → tree_at levels s a end p n ≡ node_at s (λ a stop q m. below s levels a stop q m) p n body h
 unfolding tree_at
 tree-opened zero s a end p n body h l e = absurd (omega arith)
@@ -66,145 +70,173 @@ require-then true number place o next = refl
 require-then false number place o next = refl
 
 -- what is left ends where the descriptor does
-pub rest-ends : (k : Kind) (s : List ℕ) (p inside stop at : ℕ) → stop ≤ length s → Holds (λ q m. q ≡ stop) (rest_at k s p inside stop at)
+rest-ends : (k : Kind) (s : List ℕ) (p inside stop at : ℕ) → stop ≤ length s → Holds (λ q m. q ≡ stop) (rest_at k s p inside stop at)
 unfolding rest_at
 rest-ends k s p inside stop at fit = holds-require (not (is_stamp k) || stamp_at s inside) 10 p (λ _. holds-weaken (name-ends s p stop fit at) (λ q m e. e.1))
 
-module _ (s : List ℕ) (f : Bool → ℕ → ℕ → ℕ → Outcome Tree) (p n body : ℕ) (h : Header) where
-  abbrev stop : ℕ
-  stop = p + h.size
+-- a descriptor that was read up to q, with m rows after it where n were before
+record Counted (o : Outcome Tree) (n q m : ℕ) : Type 0 where
+  pub tree : Tree
+  pub eq : o ≡ read q tree
+  pub rows : m ≡ n + row_count tree
 
-  -- the children, read from `at` on
-  abbrev pub children_from : Fields → ℕ → Outcome Forest
-  children_from b at = members_at (f (is_array (kind_of h.code)) stop) (child_count b) at (n + 1)
+-- the children of a descriptor of the kind k that ends at `stop` stand from `at` up to `next`
+pub record ChildrenIn (s : List ℕ) (k : Kind) (at stop next : ℕ) : Type 0 where
+  pub inside : next ≤ stop
+  pub lie : is_stamp k ≡ true → Lies s at
 
-  module _ (number place : ℕ) where
-    pub fields-lost : fields_at (kind_of h.code) s p body stop ≡ refused number place → node_at s f p n body h ≡ refused number place
+-- the descriptor at p, and what the steps of its parts tell: h is its header, b its fields, w its children
+module _ (s : List ℕ) (levels : ℕ) (a : Bool) (end p n : ℕ) where
+  abbrev tree : Outcome Tree
+  tree = tree_at levels s a end p n
+
+  module _ (h : Head) (eh : Ok h ≡ head_of (header_at s levels a end p n)) where
+    abbrev stop : ℕ
+    stop = p + h.size
+
+    fits : HeaderFits s levels a end p n h.body (record { size = h.size; code = h.code })
+    fits = holds_read (head-got _ h eh) (header-fits s levels a end p n)
+
+    opened : tree ≡ node_at s (λ a stop q m. below s levels a stop q m) p n h.body (record { size = h.size; code = h.code })
+    opened = tree-opened levels s a end p n h.body _ fits.depth (head-got _ h eh)
+
+    fields-lost : (r : Refusal) → Err r ≡ fields_step (fields_at (kind_of h.code) s p h.body stop) → tree ≡ refused r.number r.place
     unfolding node_at
-    fields-lost e = rw e
+    fields-lost r e = opened ∙ rw (lost count_of child_count _ r e) refl
 
-    pub children-lost : (at : ℕ) (b : Fields) → fields_at (kind_of h.code) s p body stop ≡ read at b → children_from b at ≡ refused number place
-        → node_at s f p n body h ≡ refused number place
-    unfolding node_at
-    children-lost at b e c = rw (e, c)
+    module _ (b : Step) (eb : Ok b ≡ fields_step (fields_at (kind_of h.code) s p h.body stop)) (inside : end ≤ length s) where
+      fields : Got count_of child_count (fields_at (kind_of h.code) s p h.body stop) b
+      fields = got count_of child_count _ b eb
 
-  -- what is left after the children, where the two tests of what stands inside agree
-  module _ (at next : ℕ) (b : Fields) (ts : Forest) (e : fields_at (kind_of h.code) s p body stop ≡ read at b) (c : children_from b at ≡ read next ts)
-      (fits : inside_fits (kind_of h.code) ts ≡ (not (is_stamp (kind_of h.code)) || stamp_at s at)) where
-    node-rest : node_at s f p n body h ≡ and_then (rest_at (kind_of h.code) s p at stop next) (λ last m. read last (node h.code b ts m))
-    unfolding node_at rest_at
-    node-rest =
-        rw (e, c, fits) (sym (require-then (not (is_stamp (kind_of h.code)) || stamp_at s at) 10 p (name_at s stop next) (λ last m. read last (node h.code b ts m))))
+      -- they end in the descriptor
+      pub fields_inside : b.next ≤ p + h.size
+      fields_inside =
+          (holds_read fields.eq (fields-end s p stop (omega (arith, fits.within)) (kind_of h.code) h.body fits.body (omega (arith, fits.body, fits.least)))).within
 
-    pub rest-lost : (number place : ℕ) → rest_at (kind_of h.code) s p at stop next ≡ refused number place → node_at s f p n body h ≡ refused number place
-    rest-lost number place d = node-rest ∙ ap (λ (o : Outcome Name). and_then o (λ last m. read last (node h.code b ts m))) d
+      children-lost : (r : Refusal) → Err r ≡ row_step s (levels - 1) (is_array (kind_of h.code)) stop b.children b.next (n + 1) → tree ≡ refused r.number r.place
+      unfolding node_at
+      children-lost r e =
+          let same = e ∙ ap (λ (k : ℕ). row_step s (levels - 1) (is_array (kind_of h.code)) stop k b.next (n + 1)) fields.inside in
+          opened ∙ rw (fields.eq, lost (λ f. n + 1 + forest_rows f) (λ _. 0) _ r same) refl
 
-    pub node-read : (last : ℕ) (m : Name) → rest_at (kind_of h.code) s p at stop next ≡ read last m → node_at s f p n body h ≡ read last (node h.code b ts m)
-    node-read last m d = node-rest ∙ ap (λ (o : Outcome Name). and_then o (λ last m. read last (node h.code b ts m))) d
+      module _ (deep : levels ≤ depth_limit) (w : Step) (ew : Ok w ≡ row_step s (levels - 1) (is_array (kind_of h.code)) stop b.children b.next (n + 1)) where
+        children : Got (λ f. n + 1 + forest_rows f) (λ _. 0)
+            (members_at (λ q m. below s levels (is_array (kind_of h.code)) stop q m) (child_count fields.value) b.next (n + 1)) w
+        children = got _ _ _ w (ew ∙ ap (λ (k : ℕ). row_step s (levels - 1) (is_array (kind_of h.code)) stop k b.next (n + 1)) fields.inside)
+
+        -- and stand there by themselves
+        alone : standing_row s (child_count fields.value) b.next ≡ read w.next children.value
+        alone =
+            members-standing s (levels - 1) (is_array (kind_of h.code)) stop (omega arith) (omega (arith, fits.within)) (child_count fields.value) b.next (n + 1) w.next
+            children.value children.eq
+
+        one : is_stamp (kind_of h.code) ≡ true → child_count fields.value ≡ 1
+        one e = stamp-one s (kind_of h.code) p h.body stop b.next fields.value e fields.eq
+
+        -- they end in it, and those of a time stamp are one descriptor, which lies in the bytes
+        pub children_in : ChildrenIn s (kind_of h.code) b.next (p + h.size) w.next
+        children_in = record {
+          inside =
+              (holds_read children.eq
+              (members-end stop (λ q m. below s levels (is_array (kind_of h.code)) stop q m)
+              (λ q m. tree-ends s (levels - 1) (is_array (kind_of h.code)) stop q m (omega (arith, fits.within))) (child_count fields.value) b.next (n + 1) fields_inside)).0.within;
+          lie = λ e. inside-lies s b.next w.next children.value (ap (λ (k : ℕ). standing_row s k b.next) (sym (one e)) ∙ alone);
+        }
+
+        -- what is left of it
+        left : tree ≡ and_then (rest_at (kind_of h.code) s p b.next stop w.next) (λ last m. read last (node h.code fields.value children.value m))
+        unfolding node_at rest_at
+        left =
+            opened
+            ∙ rw (fields.eq, children.eq, inside-same s (kind_of h.code) (child_count fields.value) b.next w.next children.value one alone)
+            (sym (require-then (not (is_stamp (kind_of h.code)) || stamp_at s b.next) 10 p (name_at s stop w.next) (λ last m. read last (node h.code fields.value children.value m))))
+
+        rest-lost : (r : Refusal) → Err r ≡ counted length_of_name (rest_at (kind_of h.code) s p b.next stop w.next) → tree ≡ refused r.number r.place
+        rest-lost r e = left ∙ rw (lost length_of_name (λ _. 0) _ r e) refl
+
+        tree-read : (m : Step) → Ok m ≡ counted length_of_name (rest_at (kind_of h.code) s p b.next stop w.next) → Counted tree n stop w.value
+        unfolding row_count
+        tree-read m e =
+            let name = got length_of_name (λ _. 0) _ m e in
+            let last = holds_read name.eq (rest-ends (kind_of h.code) s p b.next stop w.next (omega (arith, fits.within))) in
+            record {
+              tree = node h.code fields.value children.value name.value;
+              eq =
+                  left
+                  ∙ ap (λ (o : Outcome Name). and_then o (λ last m. read last (node h.code fields.value children.value m))) name.eq
+                  ∙ ap (λ (j : ℕ). read j (node h.code fields.value children.value name.value)) last;
+              rows = omega (arith, children.counts);
+            }
 
 -- ---- descriptors in a row
 
-module _ (s : List ℕ) (levels : ℕ) (a : Bool) (end : ℕ) where
-  -- one more, and what is left after it
-  pub row_more : (k p n q : ℕ) (t : Tree) → tree_at levels s a end p n ≡ read q t
-      → row_step s levels a end (suc k) p n ≡ row_step s levels a end k q (n + row_count t)
-  unfolding members_at forest_rows
-  row_more k p n q t e = rw e (go (members_at (λ q m. tree_at levels s a end q m) k q (n + row_count t)))
-    where
-      go : (o : Outcome Forest)
-          → counted (λ f. n + forest_rows f) (and_then o (λ r ts. read r (cons t ts))) ≡ counted (λ f. n + row_count t + forest_rows f) o
-      go (refused number place) = refl
-      go (read r ts) = let d : n + (row_count t + forest_rows ts) ≡ n + row_count t + forest_rows ts = omega arith in ap (λ (j : ℕ). read_step r j 0) d
+-- none
+pub row_none : (s : List ℕ) (levels : ℕ) (a : Bool) (end p n : ℕ) → row_step s levels a end 0 p n ≡ Ok (read_step p n 0)
+unfolding members_at forest_rows
+row_none s levels a end p n = let d : n + 0 ≡ n = omega arith in ap (λ (j : ℕ). Ok (read_step p j 0)) d
 
-  -- one that is refused refuses all
-  pub row-lost : (k p n number place : ℕ) → tree_at levels s a end p n ≡ refused number place
-      → row_step s levels a end (suc k) p n ≡ refused_step number place
-  unfolding members_at
-  row-lost k p n number place e = rw e
+-- k descriptors from p on, i of them read already
+module _ (s : List ℕ) (levels : ℕ) (a : Bool) (end k i p n : ℕ) where
+  abbrev pub row_from : Result Step Refusal
+  row_from = row_step s levels a end (k - i) p n
 
   -- none left
-  pub row-none : (p n : ℕ) → row_step s levels a end 0 p n ≡ read_step p n 0
-  unfolding members_at forest_rows
-  row-none p n = let d : n + 0 ≡ n = omega arith in ap (λ (j : ℕ). read_step p j 0) d
+  pub row_end : i ≡ k → row_from ≡ Ok (read_step p n 0)
+  row_end e = none_left (λ (j : ℕ). row_step s levels a end j p n) k i (omega arith) ∙ row_none s levels a end p n
 
-  -- what the loop over a row keeps: the answer from here is the answer from the start
-  pub record RowLoop (k start n p rows i : ℕ) : Type 0 where
-    pub most : i ≤ k
-    pub next : p ≤ end
-    pub same : row_step s levels a end k start n ≡ row_step s levels a end (k - i) p rows
+  module _ (more : i < k) where
+    -- one that is refused refuses all
+    row-lost : (r : Refusal) → tree s levels a end p n ≡ refused r.number r.place → row_from ≡ Err r
+    unfolding members_at
+    row-lost r e = one_less (λ (j : ℕ). row_step s levels a end j p n) k i more ∙ rw e refl
 
-  pub loop-begin : (k start n : ℕ) → start ≤ end → RowLoop k start n start n 0
-  loop-begin k start n h = record {
-    most = omega arith;
-    next = h;
-    same = ap (λ (j : ℕ). row_step s levels a end j start n) (sym (sub-zero k));
-  }
+    -- one that is read leaves the others
+    row-more : (q m : ℕ) → Counted (tree s levels a end p n) n q m → row_from ≡ row_step s levels a end (k - (i + 1)) q m
+    unfolding members_at forest_rows
+    row-more q m c =
+        one_less (λ (j : ℕ). row_step s levels a end j p n) k i more
+        ∙ rw (c.eq, c.rows) (go c.tree (members_at (λ q m. tree s levels a end q m) (k - (i + 1)) q (n + row_count c.tree)))
+      where
+        go : (t : Tree) (o : Outcome Forest)
+            → counted (λ f. n + forest_rows f) (and_then o (λ r ts. read r (cons t ts))) ≡ counted (λ f. n + row_count t + forest_rows f) o
+        go t (refused number place) = refl
+        go t (read r ts) = let d : n + (row_count t + forest_rows ts) ≡ n + row_count t + forest_rows ts = omega arith in ap (λ (j : ℕ). Ok (read_step r j 0)) d
 
-  module _ (k start n p rows i : ℕ) (l : RowLoop k start n p rows i) where
-    pub loop-more : i < k → (q m : ℕ) (t : Tree) → q ≤ end → tree_at levels s a end p rows ≡ read q t → m ≡ rows + row_count t
-        → RowLoop k start n q m (i + 1)
-    loop-more h q m t w e d = record {
-      most = omega arith;
-      next = w;
-      same = l.same ∙ one_less (λ j. row_step s levels a end j p rows) k i h ∙ row_more (k - (i + 1)) p rows q t e
-          ∙ ap (λ (j : ℕ). row_step s levels a end (k - (i + 1)) q j) (sym d);
-    }
+    -- the header of the next one is refused
+    pub header_refused : (r : Refusal) → Err r ≡ head_of (header_at s levels a end p n) → row_from ≡ Err r
+    header_refused r e = row-lost r (tree-lost levels s a end p n r.number r.place (head-lost _ r e))
 
-    pub loop-lost : i < k → (number place : ℕ) → tree_at levels s a end p rows ≡ refused number place
-        → refused_step number place ≡ row_step s levels a end k start n
-    loop-lost h number place e =
-        sym (l.same ∙ one_less (λ j. row_step s levels a end j p rows) k i h ∙ row-lost (k - (i + 1)) p rows number place e)
+    module _ (h : Head) (eh : Ok h ≡ head_of (header_at s levels a end p n)) where
+      -- its fields are
+      pub fields_refused : (r : Refusal) → Err r ≡ fields_step (fields_at (kind_of h.code) s p h.body (p + h.size)) → row_from ≡ Err r
+      fields_refused r e = row-lost r (fields-lost s levels a end p n h eh r e)
 
-    pub loop-done : k ≤ i → read_step p rows 0 ≡ row_step s levels a end k start n
-    loop-done h = sym (l.same ∙ none_left (λ j. row_step s levels a end j p rows) k i h ∙ row-none p rows)
+      module _ (b : Step) (eb : Ok b ≡ fields_step (fields_at (kind_of h.code) s p h.body (p + h.size))) (inside : end ≤ length s) where
+        -- its children are
+        pub children_refused : (r : Refusal) → Err r ≡ row_step s (levels - 1) (is_array (kind_of h.code)) (p + h.size) b.children b.next (n + 1) → row_from ≡ Err r
+        children_refused r e = row-lost r (children-lost s levels a end p n h eh b eb inside r e)
 
--- the children that were read: where they end and how many rows there are then
-pub record Inside (o : Outcome Forest) (stop n at rows : ℕ) : Type 0 where
-  pub forest : Forest
-  pub eq : o ≡ read at forest
-  pub count : rows ≡ n + forest_rows forest
-  pub within : at ≤ stop
+        module _ (deep : levels ≤ depth_limit) (w : Step)
+            (ew : Ok w ≡ row_step s (levels - 1) (is_array (kind_of h.code)) (p + h.size) b.children b.next (n + 1)) where
+          -- what is left of it is
+          pub rest_refused : (r : Refusal) → Err r ≡ counted length_of_name (rest_at (kind_of h.code) s p b.next (p + h.size) w.next) → row_from ≡ Err r
+          rest_refused r e = row-lost r (rest-lost s levels a end p n h eh b eb inside deep w ew r e)
 
--- none
-pub no-children : (f : ℕ → ℕ → Outcome Tree) (stop k at n : ℕ) → k ≡ 0 → at ≤ stop → Inside (members_at f k at n) stop n at n
-unfolding members_at forest_rows
-no-children f stop k at n e w = record {
-  forest = nil;
-  eq = ap (λ (j : ℕ). members_at f j at n) e;
-  count = omega arith;
-  within = w;
-}
+          -- it is read
+          pub one_more : (m : Step) → Ok m ≡ counted length_of_name (rest_at (kind_of h.code) s p b.next (p + h.size) w.next)
+              → row_from ≡ row_step s levels a end (k - (i + 1)) (p + h.size) w.value
+          one_more m e = row-more (p + h.size) w.value (tree-read s levels a end p n h eh b eb inside deep w ew m e)
 
--- some, read by the same rules
-pub some-children : (s : List ℕ) (levels : ℕ) (a : Bool) (stop k at n : ℕ) (w : Step) → stop ≤ length s → at ≤ stop
-    → w ≡ row_step s levels a stop k at n → w.ok ≡ true → Inside (members_at (λ q m. tree_at levels s a stop q m) k at n) stop n w.next w.value
-some-children s levels a stop k at n w inside h e q =
-    let g = got (λ f. n + forest_rows f) (λ _. 0) (members_at (λ q m. tree_at levels s a stop q m) k at n) w e q in
-    record {
-      forest = g.value;
-      eq = g.eq;
-      count = g.counts;
-      within = (holds_read g.eq (members-end stop (λ q m. tree_at levels s a stop q m) (λ q m. tree-ends s levels a stop q m inside) k at n h)).0.within;
-    }
+-- ---- the whole
 
 -- a row of one is the descriptor itself
-pub row_one : (s : List ℕ) (levels : ℕ) (a : Bool) (end p : ℕ) → row_step s levels a end 1 p 0 ≡ counted row_count (tree_at levels s a end p 0)
+pub row_one : (s : List ℕ) → row_step s depth_limit false (length s) 1 0 0 ≡ counted row_count (tree_at depth_limit s false (length s) 0 0)
 unfolding members_at forest_rows
-row_one s levels a end p = go (tree_at levels s a end p 0)
+row_one s = go (tree_at depth_limit s false (length s) 0 0)
   where
     go : (o : Outcome Tree)
         → counted (λ f. 0 + forest_rows f) (and_then o (λ q t. and_then (read q nil) (λ r ts. read r (cons t ts)))) ≡ counted row_count o
     go (refused number place) = refl
-    go (read q t) = let d : 0 + (row_count t + 0) ≡ row_count t = omega arith in ap (λ (j : ℕ). read_step q j 0) d
+    go (read q t) = let d : 0 + (row_count t + 0) ≡ row_count t = omega arith in ap (λ (j : ℕ). Ok (read_step q j 0)) d
 
--- a top descriptor that takes all of the bytes is what they are checked to be
-whole-tree : (s : List ℕ) (q : ℕ) (t : Tree) → tree_at depth_limit s false (length s) 0 0 ≡ read q t → length s ≤ descriptor_limit → q ≡ length s
-    → checked s ≡ read q t
-unfolding checked
-whole-tree s q t e short whole = rw (le-leb _ _ short, e, eq-eqb _ _ whole)
-
-pub whole-read : (s : List ℕ) (w : Step) → w ≡ counted row_count (tree_at depth_limit s false (length s) 0 0) → length s ≤ descriptor_limit
-    → w.ok ≡ true → w.next ≡ length s → w ≡ counted row_count (checked s)
-whole-read s w e short q whole =
-    let g = got row_count (λ _. 0) (tree_at depth_limit s false (length s) 0 0) w e q in
-    e ∙ ap (λ (o : Outcome Tree). counted row_count o) (g.eq ∙ sym (whole-tree s w.next g.value g.eq short whole))
+pub ruleset row_steps = (row_none, row_end, header_refused, fields_inside, fields_refused, children_in, children_refused, rest_refused, one_more)

@@ -18,7 +18,7 @@ use Rattle.descriptor.specs.Check.{fields_at}
 use Rattle.descriptor.specs.inner.Standing.{standing, standing_row}
 use Rattle.descriptor.proofs.Outcomes.{Holds, found, holds_read, holds-require, holds-and_then}
 use Rattle.descriptor.proofs.CodeKinds.{AllPlain, stamp-plain}
-use Rattle.descriptor.proofs.Sizes.{and-true, count_fits}
+use Rattle.descriptor.proofs.Sizes.{and-true, both_true, count_fits}
 use Rattle.descriptor.proofs.Standing.{Opened, open-standing, standing-ends, row-split, row_first, row-none, row_ends}
 use Rattle.descriptor.proofs.FieldKinds.{plain-fields, cluster-fields, stamp-fields}
 use Rattle.descriptor.proofs.Steps.{impossible}
@@ -30,9 +30,6 @@ same_test true true f g = refl
 same_test false false f g = refl
 same_test true false f g = impossible (f refl)
 same_test false true f g = impossible (g refl)
-
-both_true : (a b : Bool) → a ≡ true → b ≡ true → (a && b) ≡ true
-both_true a b e g = rw (e, g)
 
 -- a name has no bytes exactly where there is none
 unnamed-size : (m : Name) → is_unnamed m ≡ true → name_size m ≡ 0
@@ -88,30 +85,6 @@ module _ (s : List ℕ) (p q c : ℕ) (b : Fields) (f : Forest) (m : Name) (e : 
       let nobody : fields_size b ≡ 0 = ap fields_size is in
       omega (arith, size_is, no_bytes f none)
 
-and-true-last : (a : Bool) → (a && true) ≡ a
-and-true-last true = refl
-and-true-last false = refl
-
--- the test of the bytes, place by place
-pub stamp-spread : (s : List ℕ) (p : ℕ)
-    → stamp_at s p
-    ≡ (eqb (size_in s p) stamp_cluster_size
-    && (eqb (code_in s p) cluster_code
-    && (eqb (be s (p + 4) 2) 4 && (bare_at s 0x03 (p + 6) && (bare_at s 0x03 (p + 10) && (bare_at s 0x07 (p + 14) && bare_at s 0x07 (p + 18)))))))
-unfolding stamp_at bares_at
-stamp-spread s p =
-    let a : body_at p + 2 ≡ p + 6 = omega arith in
-    let b : body_at p + 2 + header_size ≡ p + 10 = omega arith in
-    let c : body_at p + 2 + header_size + header_size ≡ p + 14 = omega arith in
-    let d : body_at p + 2 + header_size + header_size + header_size ≡ p + 18 = omega arith in
-    (λ i. eqb (size_in s p) stamp_cluster_size
-    && (eqb (code_in s p) cluster_code
-    && (eqb (be s (p + 4) 2) 4 && (bare_at s 0x03 (a i) && (bare_at s 0x03 (b i) && (bare_at s 0x07 (c i) && (bare_at s 0x07 (d i) && true)))))))
-    ∙ λ i. eqb (size_in s p) stamp_cluster_size
-    && (eqb (code_in s p) cluster_code
-    && (eqb (be s (p + 4) 2) 4
-    && (bare_at s 0x03 (p + 6) && (bare_at s 0x03 (p + 10) && (bare_at s 0x07 (p + 14) && and-true-last (bare_at s 0x07 (p + 18)) i)))))
-
 module _ (s : List ℕ) where
   -- unnamed descriptors of plain codes, by what was read
   there : (cs : List ℕ) → AllPlain cs → (k p r : ℕ) (f : Forest) → p ≤ length s → standing_row s k p ≡ read r f → are_unnamed cs f ≡ true
@@ -131,7 +104,7 @@ module _ (s : List ℕ) where
       let o = open-standing s p _ d b g m row.0 in
       let whole : tree_size (node d b g m) ≡ header_size = omega (arith, o.size, size) in
       let others = there cs plains.1 k (p + header_size) r f (omega (arith, o.inside, o.size, size)) (ap (λ (n : ℕ). standing_row s k (p + n)) (sym whole) ∙ row.1) rest.1 in
-      (both_true _ _ (both_true _ _ (eq-eqb _ _ size) (eq-eqb _ _ (sym o.code ∙ code))) others.0, (omega (arith, whole, others.1.0), omega (arith, others.1.1)))
+      (both_true (both_true (eq-eqb _ _ size) (eq-eqb _ _ (sym o.code ∙ code))) others.0, (omega (arith, whole, others.1.0), omega (arith, others.1.1)))
 
   -- and by the bytes
   back : (cs : List ℕ) → AllPlain cs → (p r : ℕ) (f : Forest) → p ≤ length s → standing_row s (length cs) p ≡ read r f → bares_at s cs p ≡ true
@@ -150,7 +123,7 @@ module _ (s : List ℕ) where
       let whole : tree_size (node d b g m) ≡ header_size = omega (arith, o.size, size) in
       let alone : name_size m ≡ 0 = omega (arith, plain_size s p _ d b g m row.0 (ap kind_of code ∙ plains.0), size) in
       let others = back cs plains.1 (p + header_size) r f (omega (arith, o.inside, o.size, size)) (ap (λ (n : ℕ). standing_row s (length cs) (p + n)) (sym whole) ∙ row.1) parts.1 in
-      (both_true _ _ (eq-eqb _ _ code) (both_true _ _ (size-unnamed m alone) others.0), omega (arith, whole, others.1))
+      (both_true (eq-eqb _ _ code) (both_true (size-unnamed m alone) others.0), omega (arith, whole, others.1))
 
   -- what stands at p is the cluster of a time stamp exactly where its bytes say so
   cluster-same : (p q : ℕ) (t : Tree) → standing s p ≡ read q t → is_stamp_cluster t ≡ stamp_at s p
@@ -179,7 +152,7 @@ module _ (s : List ℕ) where
           let inside : body_at p + 2 ≤ length s = omega (arith, o.body, o.inside, two code) in
           let found = there stamp_codes stamp-plain (be s (body_at p) 2) (body_at p + 2) _ f inside (inner code) rest.0 in
           let size : size_in s p ≡ stamp_cluster_size = size_is s p q c b f m e ∙ omega (arith, two code, found.1.0, unnamed-size m rest.1) in
-          both_true _ _ (eq-eqb _ _ size) (both_true _ _ (eq-eqb _ _ (sym o.code ∙ code)) (both_true _ _ (eq-eqb _ _ found.1.1) found.0))
+          both_true (eq-eqb _ _ size) (both_true (eq-eqb _ _ (sym o.code ∙ code)) (both_true (eq-eqb _ _ found.1.1) found.0))
 
       again : (eqb (size_in s p) stamp_cluster_size && (eqb (code_in s p) cluster_code && (eqb (be s (body_at p) 2) 4 && bares_at s stamp_codes (body_at p + 2)))) ≡ true
           → (eqb c cluster_code && (are_unnamed stamp_codes f && is_unnamed m)) ≡ true
@@ -193,7 +166,7 @@ module _ (s : List ℕ) where
           let found = back stamp_codes stamp-plain (body_at p + 2) _ f inside (ap (λ (n : ℕ). standing_row s n (body_at p + 2)) (sym four) ∙ inner code) third.1 in
           let size : size_in s p ≡ stamp_cluster_size = eqb-true _ _ first.0 in
           let alone : name_size m ≡ 0 = omega (arith, size_is s p q c b f m e, size, two code, found.1) in
-          both_true _ _ (eq-eqb _ _ code) (both_true _ _ found.0 (size-unnamed m alone))
+          both_true (eq-eqb _ _ code) (both_true found.0 (size-unnamed m alone))
 
   -- one descriptor alone
   one-alone : (p r : ℕ) (f : Forest) → standing_row s 1 p ≡ read r f → is_stamp_inside f ≡ stamp_at s p

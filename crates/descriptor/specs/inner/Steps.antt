@@ -1,9 +1,9 @@
 -- The outcomes of the readings as the code hands them on: a refusal, or what was read by its numbers alone.
-use Rattle.std.specs.Prelude.{Bool, true, false, cond, List, ℕ, ◌+◌, Result, Ok, Err}
+use Rattle.std.specs.Prelude.{Bool, true, false, ℕ, Result, Ok, Err}
 use Rattle.descriptor.specs.Codes.{Kind, plain, enumeration, quantity, string, array, cluster, stamp, unknown}
 use Rattle.descriptor.specs.Tree.{Fields, count_of, child_count}
-use Rattle.descriptor.specs.Outcome.{Outcome, refused, read, and_then}
-use Rattle.descriptor.specs.Check.{Header, run_at, judged, base_fits, word_fits}
+use Rattle.descriptor.specs.Outcome.{Outcome, refused, read}
+use Rattle.descriptor.specs.Check.{Header}
 use Rattle.descriptor.specs.declared.codes.Kind.{Kind as CodeKind}
 use Rattle.descriptor.specs.declared.codes.Kind.TheVariants as kinds
 use Rattle.descriptor.specs.declared.refusal.Refusal.{Refusal}
@@ -42,15 +42,6 @@ is_compound array = false
 is_compound cluster = true
 is_compound stamp = true
 is_compound unknown = false
-
--- the test of an entry of four bytes at a place: a unit pair's base index, or a fixed word
-unfoldable pub entry_fits : List ℕ → Bool → ℕ → Bool
-entry_fits s pairs at = cond pairs (base_fits s at) (word_fits s at)
-
--- the part that unit pairs and dimension words share: a count, that many words after it, and the test of each
-unfoldable pub words_at : List ℕ → Bool → ℕ → ℕ → ℕ → Outcome ℕ
-words_at s pairs at stop most =
-    and_then (run_at s at stop most) (λ last k. and_then (judged (entry_fits s pairs) k (at + 2)) (λ _ _. read last k))
 
 abbrev pub refusal_at : ℕ → ℕ → Refusal
 refusal_at number place = record { number = number; place = place }

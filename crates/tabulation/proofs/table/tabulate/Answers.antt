@@ -1,283 +1,60 @@
--- The answers to the goals of `tabulate`.
-use mathlib.Core.Path.{refl, ap}
+-- The answers to the goals of `tabulate`: each cites the turn that it stands in. Rests on `Resuming`.
 use native.Mathlib.Omega.{arith}
-use Prim.Native.Nat.{suc, ◌-◌}
-use Rattle.descriptor.specs.Limits.{depth_limit}
-use Rattle.descriptor.specs.inner.Standing.{is_read}
-use Rattle.descriptor.specs.inner.Filling.{Table, empty_table, filled}
-use Rattle.descriptor.proofs.Filling.{first, low, room}
-use Rattle.tabulation.proofs.Resuming.{Resuming, left_at, resume-begin, resume-as, resume-done, close-asks, close_row, resume-row, leaf-row, resume-leaf, resume-open}
+use Rattle.tabulation.proofs.Resuming.{resume_begin, turn_done, close_row, close_place, turn_close, ahead_stands, ahead_header, ahead_room, ahead_low, leaf_row, turn_leaf, turn_open}
 use Rattle.tabulation.proofs.table.tabulate.Goals as goal
 
 pub loop-k-init : goal.loop-k-init
-loop-k-init c = resume-begin c.args.d.now c.zero_rows-rows.result c.zero_rows-rows.ensures c.none_open-open.result c.requires
+loop-k-init c = resume_begin c.args.d.now c.zero_rows-rows.result c.zero_rows-rows.ensures c.default-open.result c.requires
 
 pub returns-then-level-eq0 : goal.returns-then-level-eq0
-returns-then-level-eq0 c =
-    let s = c.args.d.now in
-    let l = c.loop-k in
-    let goal = filled s depth_limit 1 empty_table in
-    let t : Table = record { rows = l.rows; n = l.n; at = l.at } in
-    ap (λ (x : Table). x.rows) (resume-done s goal t l.«open» (resume-as s goal t l.«open» l.level l.k 0 0 l.invariant c.if-level-eq0.true c.if-k-eq0.true))
-
-pub overflow_sub-level : goal.overflow_sub-level
-overflow_sub-level c = omega (arith, c.if-level-eq0.false)
-
-pub offset_bounds-open-level : goal.offset_bounds-open-level
-offset_bounds-open-level c = omega (arith, c.loop-k.invariant.deep)
-
-pub bounds-open-level : goal.bounds-open-level
-bounds-open-level c = omega (arith, c.if-level-eq0.false, c.loop-k.invariant.deep)
-
-pub overflow_add-level : goal.overflow_add-level
-overflow_add-level c = omega (arith, c.loop-k.invariant.deep)
+returns-then-level-eq0 c = turn_done _ _ _ _ _ _ c.loop-k.invariant c.if-k-eq0.true c.if-level-eq0.true
 
 pub row_at-requires : goal.row_at-requires
-row_at-requires c =
-    let s = c.args.d.now in
-    let l = c.loop-k in
-    let goal = filled s depth_limit 1 empty_table in
-    let t : Table = record { rows = l.rows; n = l.n; at = l.at } in
-    let j = l.level - 1 in
-    let r : Resuming s goal t l.«open» (suc j) 0 = resume-as s goal t l.«open» l.level l.k (suc j) 0 l.invariant (omega (arith, c.if-level-eq0.false)) c.if-k-eq0.true in
-    close_row s goal t l.«open» j r
+row_at-requires c = close_row _ _ _ _ _ _ c.loop-k.invariant c.if-k-eq0.true (omega arith)
 
-pub offset_bounds-rows-m : goal.offset_bounds-rows-m
-offset_bounds-rows-m c =
-    let s = c.args.d.now in
-    let l = c.loop-k in
-    let goal = filled s depth_limit 1 empty_table in
-    let t : Table = record { rows = l.rows; n = l.n; at = l.at } in
-    let j = l.level - 1 in
-    let r : Resuming s goal t l.«open» (suc j) 0 = resume-as s goal t l.«open» l.level l.k (suc j) 0 l.invariant (omega (arith, c.if-level-eq0.false)) c.if-k-eq0.true in
-    omega (arith, (close-asks s goal t l.«open» j r).place)
+pub offset_bounds-rows-o : goal.offset_bounds-rows-o
+offset_bounds-rows-o c = omega (arith, close_place _ _ _ _ _ _ c.loop-k.invariant c.if-k-eq0.true (omega arith))
 
-pub bounds-rows-m : goal.bounds-rows-m
-bounds-rows-m c =
-    let s = c.args.d.now in
-    let l = c.loop-k in
-    let goal = filled s depth_limit 1 empty_table in
-    let t : Table = record { rows = l.rows; n = l.n; at = l.at } in
-    let j = l.level - 1 in
-    let r : Resuming s goal t l.«open» (suc j) 0 = resume-as s goal t l.«open» l.level l.k (suc j) 0 l.invariant (omega (arith, c.if-level-eq0.false)) c.if-k-eq0.true in
-    (close-asks s goal t l.«open» j r).place
+pub bounds-rows-o : goal.bounds-rows-o
+bounds-rows-o c = close_place _ _ _ _ _ _ c.loop-k.invariant c.if-k-eq0.true (omega arith)
 
 pub overflow_add-at : goal.overflow_add-at
 overflow_add-at c =
-    let s = c.args.d.now in
-    let l = c.loop-k in
-    let goal = filled s depth_limit 1 empty_table in
-    let t : Table = record { rows = l.rows; n = l.n; at = l.at } in
-    let j = l.level - 1 in
-    let r : Resuming s goal t l.«open» (suc j) 0 = resume-as s goal t l.«open» l.level l.k (suc j) 0 l.invariant (omega (arith, c.if-level-eq0.false)) c.if-k-eq0.true in
-    let row = close_row s goal t l.«open» j r in
+    let row = close_row _ _ _ _ _ _ c.loop-k.invariant c.if-k-eq0.true (omega arith) in
     omega (arith, row.inside, row.small)
 
-pub loop-k-smaller-then-k-eq0 : goal.loop-k-smaller-then-k-eq0
-loop-k-smaller-then-k-eq0 c = omega (arith, c.if-level-eq0.false)
-
 pub loop-k-preserved-then-k-eq0 : goal.loop-k-preserved-then-k-eq0
-loop-k-preserved-then-k-eq0 c =
-    let s = c.args.d.now in
-    let l = c.loop-k in
-    let goal = filled s depth_limit 1 empty_table in
-    let t : Table = record { rows = l.rows; n = l.n; at = l.at } in
-    let j = l.level - 1 in
-    let r : Resuming s goal t l.«open» (suc j) 0 = resume-as s goal t l.«open» l.level l.k (suc j) 0 l.invariant (omega (arith, c.if-level-eq0.false)) c.if-k-eq0.true in
-    resume-row s goal t l.«open» j r c.row_at.result c.row_at.ensures
+loop-k-preserved-then-k-eq0 c = turn_close _ _ _ _ _ _ c.loop-k.invariant c.if-k-eq0.true (omega arith) c.row_at.result c.row_at.ensures
 
 pub size_at-size-requires : goal.size_at-size-requires
-size_at-size-requires c =
-    let s = c.args.d.now in
-    let l = c.loop-k in
-    let goal = filled s depth_limit 1 empty_table in
-    let t : Table = record { rows = l.rows; n = l.n; at = l.at } in
-    let k = l.k - 1 in
-    let r : Resuming s goal t l.«open» l.level (suc k) = resume-as s goal t l.«open» l.level l.k l.level (suc k) l.invariant refl (omega (arith, c.if-k-eq0.false)) in
-    let w = first s (left_at l.level) k t r.pre in
-    let o = w.opened in
-    omega (arith, o.size, o.least, o.inside)
+size_at-size-requires c = ahead_header _ _ _ _ _ _ c.loop-k.invariant (omega arith)
 
 pub code_at-code-requires : goal.code_at-code-requires
-code_at-code-requires c =
-    let s = c.args.d.now in
-    let l = c.loop-k in
-    let goal = filled s depth_limit 1 empty_table in
-    let t : Table = record { rows = l.rows; n = l.n; at = l.at } in
-    let k = l.k - 1 in
-    let r : Resuming s goal t l.«open» l.level (suc k) = resume-as s goal t l.«open» l.level l.k l.level (suc k) l.invariant refl (omega (arith, c.if-k-eq0.false)) in
-    let w = first s (left_at l.level) k t r.pre in
-    let o = w.opened in
-    omega (arith, o.size, o.least, o.inside)
+code_at-code-requires c = ahead_header _ _ _ _ _ _ c.loop-k.invariant (omega arith)
 
-pub overflow_add-at-else-k-eq0 : goal.overflow_add-at-else-k-eq0
-overflow_add-at-else-k-eq0 c =
-    let s = c.args.d.now in
-    let l = c.loop-k in
-    let goal = filled s depth_limit 1 empty_table in
-    let t : Table = record { rows = l.rows; n = l.n; at = l.at } in
-    let k = l.k - 1 in
-    let r : Resuming s goal t l.«open» l.level (suc k) = resume-as s goal t l.«open» l.level l.k l.level (suc k) l.invariant refl (omega (arith, c.if-k-eq0.false)) in
-    let w = first s (left_at l.level) k t r.pre in
-    let o = w.opened in
-    omega (arith, o.size, o.inside, r.pre.small, c.size_at-size.ensures.eq)
-
-pub row_shape-b-requires : goal.row_shape-b-requires
-unfolding is_read
-row_shape-b-requires c =
-    let s = c.args.d.now in
-    let l = c.loop-k in
-    let goal = filled s depth_limit 1 empty_table in
-    let t : Table = record { rows = l.rows; n = l.n; at = l.at } in
-    let k = l.k - 1 in
-    let r : Resuming s goal t l.«open» l.level (suc k) = resume-as s goal t l.«open» l.level l.k l.level (suc k) l.invariant refl (omega (arith, c.if-k-eq0.false)) in
-    let w = first s (left_at l.level) k t r.pre in
-    let o = w.opened in
-    record { stands = record { is = ap is_read w.stands; small = omega (arith, r.pre.small) }; stop_value = omega (arith, c.size_at-size.ensures.eq) }
-
-pub overflow_sub-open : goal.overflow_sub-open
-overflow_sub-open c = omega (arith, c.if-k-eq0.false)
-
-pub offset_bounds-open-level-then-b-gt0 : goal.offset_bounds-open-level-then-b-gt0
-offset_bounds-open-level-then-b-gt0 c = omega (arith, c.loop-k.invariant.deep)
+pub shape_by-b-requires-clause-stands : goal.shape_by-b-requires-clause-stands
+shape_by-b-requires-clause-stands c = ahead_stands _ _ _ _ _ _ c.loop-k.invariant (omega arith)
 
 pub bounds-open-level-then-b-gt0 : goal.bounds-open-level-then-b-gt0
-bounds-open-level-then-b-gt0 c =
-    let s = c.args.d.now in
-    let l = c.loop-k in
-    let goal = filled s depth_limit 1 empty_table in
-    let t : Table = record { rows = l.rows; n = l.n; at = l.at } in
-    let k = l.k - 1 in
-    let r : Resuming s goal t l.«open» l.level (suc k) = resume-as s goal t l.«open» l.level l.k l.level (suc k) l.invariant refl (omega (arith, c.if-k-eq0.false)) in
-    let w = first s (left_at l.level) k t r.pre in
-    let o = w.opened in
-    omega (arith, low s (left_at l.level) k t r.pre w)
-
-pub overflow_add-level-then-b-gt0 : goal.overflow_add-level-then-b-gt0
-overflow_add-level-then-b-gt0 c = omega (arith, c.loop-k.invariant.deep)
-
-pub overflow_add-n : goal.overflow_add-n
-overflow_add-n c =
-    let s = c.args.d.now in
-    let l = c.loop-k in
-    let goal = filled s depth_limit 1 empty_table in
-    let t : Table = record { rows = l.rows; n = l.n; at = l.at } in
-    let k = l.k - 1 in
-    let r : Resuming s goal t l.«open» l.level (suc k) = resume-as s goal t l.«open» l.level l.k l.level (suc k) l.invariant refl (omega (arith, c.if-k-eq0.false)) in
-    let w = first s (left_at l.level) k t r.pre in
-    let o = w.opened in
-    omega (arith, room s (left_at l.level) k t r.pre w)
+bounds-open-level-then-b-gt0 c = ahead_low _ _ _ _ _ _ c.loop-k.invariant (omega arith)
 
 pub loop-k-smaller-then-b-gt0 : goal.loop-k-smaller-then-b-gt0
-loop-k-smaller-then-b-gt0 c =
-    let s = c.args.d.now in
-    let l = c.loop-k in
-    let goal = filled s depth_limit 1 empty_table in
-    let t : Table = record { rows = l.rows; n = l.n; at = l.at } in
-    let k = l.k - 1 in
-    let r : Resuming s goal t l.«open» l.level (suc k) = resume-as s goal t l.«open» l.level l.k l.level (suc k) l.invariant refl (omega (arith, c.if-k-eq0.false)) in
-    let w = first s (left_at l.level) k t r.pre in
-    let o = w.opened in
-    omega (arith, room s (left_at l.level) k t r.pre w)
+loop-k-smaller-then-b-gt0 c = omega (arith, ahead_room _ _ _ _ _ _ c.loop-k.invariant (omega arith))
 
 pub loop-k-preserved-then-b-gt0 : goal.loop-k-preserved-then-b-gt0
 loop-k-preserved-then-b-gt0 c =
-    let s = c.args.d.now in
-    let l = c.loop-k in
-    let goal = filled s depth_limit 1 empty_table in
-    let t : Table = record { rows = l.rows; n = l.n; at = l.at } in
-    let k = l.k - 1 in
-    let r : Resuming s goal t l.«open» l.level (suc k) = resume-as s goal t l.«open» l.level l.k l.level (suc k) l.invariant refl (omega (arith, c.if-k-eq0.false)) in
-    let w = first s (left_at l.level) k t r.pre in
-    let o = w.opened in
-    resume-as s goal _ _ _ _ _ _ (resume-open s goal t l.«open» l.level k r w c.size_at-size.result c.size_at-size.ensures.eq c.code_at-code.result c.code_at-code.ensures c.row_shape-b.result c.row_shape-b.ensures) (omega arith) refl
-
-pub overflow_add-level-else-b-gt0 : goal.overflow_add-level-else-b-gt0
-overflow_add-level-else-b-gt0 c = omega (arith, c.loop-k.invariant.deep)
+    turn_open _ _ _ _ _ _ c.loop-k.invariant (omega arith) _ c.size_at-size.ensures.eq _ c.code_at-code.ensures _ c.shape_by-b.ensures
 
 pub row_at-requires-else-b-gt0 : goal.row_at-requires-else-b-gt0
 row_at-requires-else-b-gt0 c =
-    let s = c.args.d.now in
-    let l = c.loop-k in
-    let goal = filled s depth_limit 1 empty_table in
-    let t : Table = record { rows = l.rows; n = l.n; at = l.at } in
-    let k = l.k - 1 in
-    let r : Resuming s goal t l.«open» l.level (suc k) = resume-as s goal t l.«open» l.level l.k l.level (suc k) l.invariant refl (omega (arith, c.if-k-eq0.false)) in
-    let w = first s (left_at l.level) k t r.pre in
-    let o = w.opened in
-    leaf-row s goal t l.«open» l.level k r w c.size_at-size.result c.size_at-size.ensures.eq c.code_at-code.result c.code_at-code.ensures c.row_shape-b.result c.row_shape-b.ensures (omega (arith, c.if-b-gt0.false))
-
-pub offset_bounds-rows-n : goal.offset_bounds-rows-n
-offset_bounds-rows-n c =
-    let s = c.args.d.now in
-    let l = c.loop-k in
-    let goal = filled s depth_limit 1 empty_table in
-    let t : Table = record { rows = l.rows; n = l.n; at = l.at } in
-    let k = l.k - 1 in
-    let r : Resuming s goal t l.«open» l.level (suc k) = resume-as s goal t l.«open» l.level l.k l.level (suc k) l.invariant refl (omega (arith, c.if-k-eq0.false)) in
-    let w = first s (left_at l.level) k t r.pre in
-    let o = w.opened in
-    omega (arith, room s (left_at l.level) k t r.pre w)
+    leaf_row _ _ _ _ _ _ c.loop-k.invariant (omega arith) _ c.size_at-size.ensures.eq _ c.code_at-code.ensures _ c.shape_by-b.ensures (omega arith)
 
 pub bounds-rows-n : goal.bounds-rows-n
-bounds-rows-n c =
-    let s = c.args.d.now in
-    let l = c.loop-k in
-    let goal = filled s depth_limit 1 empty_table in
-    let t : Table = record { rows = l.rows; n = l.n; at = l.at } in
-    let k = l.k - 1 in
-    let r : Resuming s goal t l.«open» l.level (suc k) = resume-as s goal t l.«open» l.level l.k l.level (suc k) l.invariant refl (omega (arith, c.if-k-eq0.false)) in
-    let w = first s (left_at l.level) k t r.pre in
-    let o = w.opened in
-    omega (arith, room s (left_at l.level) k t r.pre w)
-
-pub overflow_add-n-else-b-gt0 : goal.overflow_add-n-else-b-gt0
-overflow_add-n-else-b-gt0 c =
-    let s = c.args.d.now in
-    let l = c.loop-k in
-    let goal = filled s depth_limit 1 empty_table in
-    let t : Table = record { rows = l.rows; n = l.n; at = l.at } in
-    let k = l.k - 1 in
-    let r : Resuming s goal t l.«open» l.level (suc k) = resume-as s goal t l.«open» l.level l.k l.level (suc k) l.invariant refl (omega (arith, c.if-k-eq0.false)) in
-    let w = first s (left_at l.level) k t r.pre in
-    let o = w.opened in
-    omega (arith, room s (left_at l.level) k t r.pre w)
-
-pub overflow_add-at-else-b-gt0 : goal.overflow_add-at-else-b-gt0
-overflow_add-at-else-b-gt0 c =
-    let s = c.args.d.now in
-    let l = c.loop-k in
-    let goal = filled s depth_limit 1 empty_table in
-    let t : Table = record { rows = l.rows; n = l.n; at = l.at } in
-    let k = l.k - 1 in
-    let r : Resuming s goal t l.«open» l.level (suc k) = resume-as s goal t l.«open» l.level l.k l.level (suc k) l.invariant refl (omega (arith, c.if-k-eq0.false)) in
-    let w = first s (left_at l.level) k t r.pre in
-    let o = w.opened in
-    omega (arith, o.size, o.inside, r.pre.small, c.size_at-size.ensures.eq)
-
-pub overflow_sub-k : goal.overflow_sub-k
-overflow_sub-k c = omega (arith, c.if-k-eq0.false)
+bounds-rows-n c = ahead_room _ _ _ _ _ _ c.loop-k.invariant (omega arith)
 
 pub loop-k-smaller : goal.loop-k-smaller
-loop-k-smaller c =
-    let s = c.args.d.now in
-    let l = c.loop-k in
-    let goal = filled s depth_limit 1 empty_table in
-    let t : Table = record { rows = l.rows; n = l.n; at = l.at } in
-    let k = l.k - 1 in
-    let r : Resuming s goal t l.«open» l.level (suc k) = resume-as s goal t l.«open» l.level l.k l.level (suc k) l.invariant refl (omega (arith, c.if-k-eq0.false)) in
-    let w = first s (left_at l.level) k t r.pre in
-    let o = w.opened in
-    omega (arith, room s (left_at l.level) k t r.pre w)
+loop-k-smaller c = omega (arith, ahead_room _ _ _ _ _ _ c.loop-k.invariant (omega arith))
 
 pub loop-k-preserved : goal.loop-k-preserved
 loop-k-preserved c =
-    let s = c.args.d.now in
-    let l = c.loop-k in
-    let goal = filled s depth_limit 1 empty_table in
-    let t : Table = record { rows = l.rows; n = l.n; at = l.at } in
-    let k = l.k - 1 in
-    let r : Resuming s goal t l.«open» l.level (suc k) = resume-as s goal t l.«open» l.level l.k l.level (suc k) l.invariant refl (omega (arith, c.if-k-eq0.false)) in
-    let w = first s (left_at l.level) k t r.pre in
-    let o = w.opened in
-    resume-leaf s goal t l.«open» l.level k r w c.size_at-size.result c.size_at-size.ensures.eq c.code_at-code.result c.code_at-code.ensures c.row_shape-b.result c.row_shape-b.ensures (omega (arith, c.if-b-gt0.false)) c.row_at-else-b-gt0.result c.row_at-else-b-gt0.ensures
+    turn_leaf _ _ _ _ _ _ c.loop-k.invariant (omega arith) _ c.size_at-size.ensures.eq _ c.code_at-code.ensures _ c.shape_by-b.ensures (omega arith) _ c.row_at-else-b-gt0.ensures
