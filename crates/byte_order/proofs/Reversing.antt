@@ -5,8 +5,10 @@ use mathlib.Core.List.{List, ◌∷◌, ◌++◌, reverse, reverse-append}
 use Prim.Native.Nat.{ℕ, zero, suc, ◌+◌, ◌*◌, ◌/◌, ◌%◌, ◌^◌, ◌<◌, ◌≤◌}
 use native.Mathlib.Nat.{zero-add, suc-add, pow-zero, pow-suc, pow-succ', mul_assoc, div-one, div-add-mod', div-div-eq-div-mul}
 use native.Mathlib.Omega.{arith}
-use lib.ListN.{length, get_or, set, take, drop}
-use lib.Seq.{sets, take-add, drop-drop, drop-cons}
+use lib.ListN.{length, get_or, take, drop}
+use mir.Syntax.{w8}
+use mir.Val.{Fits}
+use lib.Seq.{sets, take-add, drop-drop}
 use Rattle.number.specs.Endian.{be, le_bytes}
 use Rattle.number.proofs.Inverse.{le_bytes-be}
 use Rattle.number.proofs.Writing.{length-le_bytes, sets-append}
@@ -45,21 +47,20 @@ parts-written m n v at out =
     ∙ ap (λ (k : ℕ). sets (sets out at (le_bytes m v)) (at + k) (le_bytes n (v / 256 ^ m))) (sym (length-le_bytes m v))
     ∙ sym (ap (sets out at) (le_bytes-split m n v) ∙ sets-append out at (le_bytes m v) (le_bytes n (v / 256 ^ m)))
 
--- a byte stays as it is
-pub byte-turned : (s out : List ℕ) (at : ℕ) → at < length s → set out at (get_or s at 0) ≡ turned_at 1 s at out
-byte-turned s out at h = ap (λ (x : List ℕ). sets out at (reverse (take 1 x))) (sym (drop-cons s at 0 h))
+module _ (s : List ℕ) (bytes : (k : ℕ) → Fits w8 (get_or s k 0)) where
+  below : (k : ℕ) → get_or s k 0 < 256
+  below k = omega (arith, bytes k)
 
-module _ (s : List ℕ) (bytes : (k : ℕ) → get_or s k 0 < 256) where
   -- a number of w bytes
   pub number-turned : (out : List ℕ) (w at v : ℕ) → at + w ≤ length s → v ≡ be s at w → sets out at (le_bytes w v) ≡ turned_at w s at out
-  number-turned out w at v h e = ap (sets out at) (ap (le_bytes w) e ∙ le_bytes-be s bytes at w h)
+  number-turned out w at v h e = ap (sets out at) (ap (le_bytes w) e ∙ le_bytes-be s below at w h)
 
   -- two numbers of w bytes each, written in each other's place: one number of both
   pub halves-turned : (out : List ℕ) (w at high low : ℕ) → at + (w + w) ≤ length s → high ≡ be s at w → low ≡ be s (at + w) w
       → sets (sets out at (le_bytes w low)) (at + w) (le_bytes w high) ≡ turned_at (w + w) s at out
   halves-turned out w at high low h eh el =
-      let first : le_bytes w low ≡ reverse (take w (drop (at + w) s)) = ap (le_bytes w) el ∙ le_bytes-be s bytes (at + w) w (omega arith) in
-      let second : le_bytes w high ≡ reverse (take w (drop at s)) = ap (le_bytes w) eh ∙ le_bytes-be s bytes at w (omega arith) in
+      let first : le_bytes w low ≡ reverse (take w (drop (at + w) s)) = ap (le_bytes w) el ∙ le_bytes-be s below (at + w) w (omega arith) in
+      let second : le_bytes w high ≡ reverse (take w (drop at s)) = ap (le_bytes w) eh ∙ le_bytes-be s below at w (omega arith) in
       let both : reverse (take (w + w) (drop at s)) ≡ le_bytes w low ++ le_bytes w high =
       ap reverse (take-add w w (drop at s) ∙ ap (λ (x : List ℕ). take w (drop at s) ++ take w x) (drop-drop w at s))
       ∙ reverse-append (take w (drop at s)) (take w (drop (at + w) s))

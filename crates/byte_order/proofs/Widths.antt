@@ -90,11 +90,11 @@ pub record Halved (c w n : ℕ) : Type 0 where
   pub width : w / 2 ≡ number_width c
   pub count : n * 2 ≡ n * number_count c
 
-pub complex-halved : (c w n : ℕ) → w ≡ width_of c → 0 < w → is_complex c ≡ true → Halved c w n
+pub complex-halved : {c w : ℕ} (n : ℕ) → (w ≡ width_of c) × (0 < w) → true ≡ is_complex c → Halved c w n
 unfolding number_width number_count
-complex-halved c w n e some complex =
-    let width : w / 2 ≡ number_width c = ap (λ (k : ℕ). k / 2) e ∙ sym (simp complex) in
-    let two : number_count c ≡ 2 = simp complex in
+complex-halved {c} {w} n (e, some) complex =
+    let width : w / 2 ≡ number_width c = ap (λ (k : ℕ). k / 2) e ∙ sym (simp (← complex)) in
+    let two : number_count c ≡ 2 = simp (← complex) in
     let all : 2 * (w / 2) ≡ w = ap (λ (k : ℕ). 2 * k) width ∙ ap (λ (k : ℕ). k * number_width c) (sym two) ∙ numbers-all c ∙ sym e in
     record {
       wide = subst NumberWide (sym width) (number-wide c (omega arith));
@@ -110,11 +110,11 @@ pub record Whole (c w n : ℕ) : Type 0 where
   pub width : w ≡ number_width c
   pub count : n ≡ n * number_count c
 
-pub real-whole : (c w n : ℕ) → w ≡ width_of c → 0 < w → is_complex c ≡ false → Whole c w n
+pub real-whole : {c w : ℕ} (n : ℕ) → (w ≡ width_of c) × (0 < w) → false ≡ is_complex c → Whole c w n
 unfolding number_width number_count
-real-whole c w n e some real =
-    let width : w ≡ number_width c = e ∙ sym (simp real) in
-    let one : number_count c ≡ 1 = simp real in
+real-whole {c} {w} n (e, some) real =
+    let width : w ≡ number_width c = e ∙ sym (simp (← real)) in
+    let one : number_count c ≡ 1 = simp (← real) in
     record {
       wide = subst NumberWide (sym width) (number-wide c (omega arith));
       width = width;

@@ -1,30 +1,82 @@
 // One number reversed by value: read most significant byte first and written least significant byte first. Each step is a function of
 // its own, so that it is simplified before it is put into a loop.
-ghost use Rattle.std.specs.Prelude.{◌≡◌, ◌+◌, ◌≤◌, length};
+ghost use Rattle.std.specs.Prelude.{◌≡◌, ℕ, ◌+◌, ◌≤◌, length};
 ghost use Rattle.std.proofs.lemmas.List.Edits.{sets};
 ghost use Rattle.number.specs.Endian.{be, le_bytes};
 ghost use Rattle.byte_order.specs.inner.Turning.{turned_at, NumberWide, Room};
 
-use flattened::order::{Order, number_2, number_4};
+use flattened::order::{Number, Order};
 use number::endian::{read_be, write_le};
 
 // How many numbers four bytes can say.
 const WORD_RANGE: u64 = 4294967296;
 
-// The number of two bytes at `at`.
-pub fn turn_number_2(s: &[u8], out: &mut [u8], at: usize)
-    requires { Room s.now out.old (at + 2) }
-    ensures { out.new ≡ turned_at 2 s.now at out.old }
-{
-    write_le(out, at, 2, number_2(s, at, Order::Big) as u64);
+// The numbers of one width, by the type that holds one.
+pub trait Turn {
+    // How many bytes a number has.
+    ghost WIDTH: { ℕ };
+
+    const WIDTH: usize;
+
+    // Turns the number at `at`.
+    fn turn(s: &[u8], out: &mut [u8], at: usize)
+        requires { Room s.now out.old (at + WIDTH) }
+        ensures { out.new ≡ turned_at WIDTH s.now at out.old };
 }
 
-// The number of four bytes at `at`.
-pub fn turn_number_4(s: &[u8], out: &mut [u8], at: usize)
-    requires { Room s.now out.old (at + 4) }
-    ensures { out.new ≡ turned_at 4 s.now at out.old }
-{
-    write_le(out, at, 4, number_4(s, at, Order::Big) as u64);
+// A single byte stays as it is.
+impl Turn for u8 {
+    ghost WIDTH = { 1 };
+
+    const WIDTH: usize = 1;
+
+    fn turn(s: &[u8], out: &mut [u8], at: usize) {
+        out[at] = s[at];
+    }
+}
+
+impl Turn for u16 {
+    ghost WIDTH = { 2 };
+
+    const WIDTH: usize = 2;
+
+    fn turn(s: &[u8], out: &mut [u8], at: usize) {
+        write_le(out, at, 2, u16::read(s, at, Order::Big) as u64);
+    }
+}
+
+impl Turn for u32 {
+    ghost WIDTH = { 4 };
+
+    const WIDTH: usize = 4;
+
+    fn turn(s: &[u8], out: &mut [u8], at: usize) {
+        write_le(out, at, 4, u32::read(s, at, Order::Big) as u64);
+    }
+}
+
+impl Turn for u64 {
+    ghost WIDTH = { 8 };
+
+    const WIDTH: usize = 8;
+
+    fn turn(s: &[u8], out: &mut [u8], at: usize) {
+        write_8(out, at, read_8(s, at));
+    }
+}
+
+// Two eights, each reversed, exchanged.
+impl Turn for u128 {
+    ghost WIDTH = { 16 };
+
+    const WIDTH: usize = 16;
+
+    fn turn(s: &[u8], out: &mut [u8], at: usize) {
+        let high = read_8(s, at);
+        let low = read_8(s, at + 8);
+        write_8(out, at, low);
+        write_8(out, at + 8, high);
+    }
 }
 
 fn read_word(s: &[u8], at: usize) -> u32
@@ -57,25 +109,6 @@ fn write_8(out: &mut [u8], at: usize, v: u64)
     write_word(out, at + 4, (v / WORD_RANGE) as u32);
 }
 
-// The number of eight bytes at `at`.
-pub fn turn_number_8(s: &[u8], out: &mut [u8], at: usize)
-    requires { Room s.now out.old (at + 8) }
-    ensures { out.new ≡ turned_at 8 s.now at out.old }
-{
-    write_8(out, at, read_8(s, at));
-}
-
-// The number of sixteen bytes at `at`: two eights, each reversed, exchanged.
-pub fn turn_number_16(s: &[u8], out: &mut [u8], at: usize)
-    requires { Room s.now out.old (at + 16) }
-    ensures { out.new ≡ turned_at 16 s.now at out.old }
-{
-    let high = read_8(s, at);
-    let low = read_8(s, at + 8);
-    write_8(out, at, low);
-    write_8(out, at + 8, high);
-}
-
 // The number of w bytes at `at`. Its width is found by ranges: tests of equality become a jump by a table, which takes longer.
 pub fn turn_number(s: &[u8], out: &mut [u8], at: usize, w: usize)
     requires number_wide { NumberWide w }
@@ -83,20 +116,14 @@ pub fn turn_number(s: &[u8], out: &mut [u8], at: usize, w: usize)
     ensures { out.new ≡ turned_at w s.now at out.old }
 {
     if w < 2 {
-        out[at] = s[at];
-        return;
+        u8::turn(s, out, at);
+    } else if w < 4 {
+        u16::turn(s, out, at);
+    } else if w < 8 {
+        u32::turn(s, out, at);
+    } else if w < 16 {
+        u64::turn(s, out, at);
+    } else {
+        u128::turn(s, out, at);
     }
-    if w < 4 {
-        turn_number_2(s, out, at);
-        return;
-    }
-    if w < 8 {
-        turn_number_4(s, out, at);
-        return;
-    }
-    if w < 16 {
-        turn_number_8(s, out, at);
-        return;
-    }
-    turn_number_16(s, out, at);
 }

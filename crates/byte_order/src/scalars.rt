@@ -8,28 +8,11 @@ ghost use Rattle.byte_order.specs.Reversal.{number_count, number_width};
 use super::numbers::turn_number;
 use super::runs::turn_run;
 
-const FIRST_COMPLEX: u8 = 0x0C;
-
-const LAST_COMPLEX: u8 = 0x0E;
-
-const FIRST_COMPLEX_QUANTITY: u8 = 0x1C;
-
-const LAST_COMPLEX_QUANTITY: u8 = 0x1E;
-
 // Whether values of the code are two numbers.
 pub fn is_complex(code: u8) -> bool
     ensures { result ≡ is_complex code }
 {
-    if code < FIRST_COMPLEX {
-        return false;
-    }
-    if code <= LAST_COMPLEX {
-        return true;
-    }
-    if code < FIRST_COMPLEX_QUANTITY {
-        return false;
-    }
-    code <= LAST_COMPLEX_QUANTITY
+    matches!(code, 0x0C..=0x0E | 0x1C..=0x1E)
 }
 
 // The bytes of each number of a scalar of the code `code`, of w bytes.
@@ -37,10 +20,7 @@ pub fn number_width(code: u8, w: usize) -> usize
     requires { w ≡ width_of code }
     ensures { result ≡ number_width code }
 {
-    if is_complex(code) {
-        return w / 2;
-    }
-    w
+    if is_complex(code) { w / 2 } else { w }
 }
 
 // One scalar of the code `code`, of w bytes.
@@ -53,9 +33,9 @@ pub fn turn_scalar(s: &[u8], out: &mut [u8], at: usize, code: u8, w: usize)
         let half = w / 2;
         turn_number(s, out, at, half);
         turn_number(s, out, at + half, half);
-        return;
+    } else {
+        turn_number(s, out, at, w);
     }
-    turn_number(s, out, at, w);
 }
 
 // n scalars of the code `code`, of w bytes each.
@@ -66,7 +46,7 @@ pub fn turn_scalars(s: &[u8], out: &mut [u8], at: usize, code: u8, w: usize, n: 
 {
     if is_complex(code) {
         turn_run(s, out, at, w / 2, n * 2);
-        return;
+    } else {
+        turn_run(s, out, at, w, n);
     }
-    turn_run(s, out, at, w, n);
 }

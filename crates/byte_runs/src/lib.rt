@@ -1,4 +1,5 @@
-// Runs of bytes, compared and copied whole.
+// Runs of bytes, compared and copied whole. Each is one step of the library, put into a function so that its promise is in the words of
+// the contracts that rest on it.
 #![tactic(auto)]
 
 ghost use Rattle.std.specs.Prelude.{◌≡◌, ◌≤◌, ◌++◌, ◌↔◌, length, drop, IsTrue};

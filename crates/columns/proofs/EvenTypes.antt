@@ -6,7 +6,7 @@ use mathlib.Core.List.{List, [], ◌∷◌, ◌++◌}
 use Prim.Native.Nat.{ℕ, zero, suc, ◌+◌, ◌*◌, ◌/◌, ◌<◌, ◌≤◌}
 use native.Mathlib.Nat.{mul_assoc, mul-le-mul_left, div-le_self, div-eq_of_eq-mul_left}
 use native.Mathlib.Omega.{arith}
-use borrow.Author.Tests.{eqb-true, ne_eqb}
+use borrow.Author.Tests.{eqb-true}
 use lib.Dec.{eqb}
 use lib.ListN.{length}
 use Rattle.descriptor.specs.Tree.{empty, items, pairs, text, dimensions, members, subtype, Tree, node, Forest, nil, cons, tree_size}
@@ -16,11 +16,12 @@ use Rattle.flattened.specs.inner.Extent.{joint, least, extent_fields, extent_of,
 use Rattle.flattened.specs.inner.Types.{type_at, TypeStands, SolidFields, Solid, AllSolid}
 use Rattle.flattened.specs.declared.extent.Extent.{Extent}
 use Rattle.flattened.specs.declared.extent.Extent.TheVariants.{Varies, Fixed, Around}
+use Rattle.columns.specs.declared.even.Common.TheVariants.{Free, Width, Mixed}
 use Rattle.flattened.proofs.ExtentTurns.{Small, type-few}
 use Rattle.flattened.proofs.Types.{type-solid}
 use Rattle.byte_order.specs.Reversal.{number_count, number_width}
 use Rattle.byte_order.specs.inner.Turning.{turned_run, NumberWide}
-use Rattle.columns.specs.inner.Columns.{copies, numbers_fields, numbers_in, numbers_all, total, mixed, joined_width, common_width, turned_elements, Even, Stepped}
+use Rattle.columns.specs.inner.Columns.{copies, numbers_fields, numbers_in, numbers_all, total, joined_width, common_width, turned_elements, Even}
 use Rattle.byte_order.proofs.Widths.{numbers-all, number-wide}
 use Rattle.columns.proofs.Elements.{total-append, total-copies, elements-run}
 
@@ -95,40 +96,29 @@ mutual
   row-wide (cons t f) solid = wide-append (numbers_in t) (numbers_all f) (type-wide t solid.0) (row-wide f solid.1)
 
 -- numbers of several widths stay so
-mixed-stays : (ws : List ℕ) → common_width mixed ws ≡ mixed
-unfolding common_width joined_width mixed
+mixed-stays : (ws : List ℕ) → common_width Mixed ws ≡ Mixed
+unfolding common_width
 mixed-stays [] = refl
-mixed-stays (w ∷ ws) = ap (λ (v : ℕ). common_width v ws) (go (eqb 32 w) refl) ∙ mixed-stays ws
+mixed-stays (w ∷ ws) = mixed-stays ws
+
+-- numbers after one of the width v that have the width w in common
+common-after : (w v : ℕ) (ws : List ℕ) → Width w ≡ common_width (Width v) ws → (v ≡ w) × (ws ≡ copies (length ws) w)
+unfolding common_width copies
+common-after w v [] e = (cc, refl)
+common-after w v (u ∷ us) e = go (eqb v u) refl e (λ l. common-after w u us l)
   where
-    go : (b : Bool) → eqb 32 w ≡ b → cond b w 32 ≡ 32
-    go true e = sym (eqb-true 32 w e)
-    go false e = refl
+    go : (b : Bool) → eqb v u ≡ b → Width w ≡ common_width (cond b (Width u) Mixed) us → (Width w ≡ common_width (Width u) us → (u ≡ w) × (us ≡ copies (length us) w))
+        → (v ≡ w) × ((u ∷ us) ≡ copies (length (u ∷ us)) w)
+    go true h e after = let rest = after e in (eqb-true v u h ∙ rest.0, λ i. rest.0 i ∷ rest.1 i)
+    go false h e after = absurd (cc (mixed-stays us))
 
--- a number's width is not 0
-some-wide : (w : ℕ) → NumberWide w → w ≡ 0 → ⊥
-some-wide w wide e = omega (arith, wide.else (λ h. omega arith) (λ h. omega arith) (λ h. omega arith) (λ h. omega arith))
-
-module _ (w : ℕ) (one : w ≡ mixed → ⊥) where
-  -- numbers after one of the width v that have the width w in common
-  common-after : (v : ℕ) (ws : List ℕ) → NumberWide v → EachWide ws → w ≡ common_width v ws → (v ≡ w) × (ws ≡ copies (length ws) w)
-  unfolding common_width joined_width copies EachWide
-  common-after v [] wide each e = (sym e, refl)
-  common-after v (u ∷ us) wide each e =
-      let first : joined_width v u ≡ cond (eqb v u) u mixed = simp (ne_eqb v 0 (some-wide v wide)) in
-      go (eqb v u) refl (e ∙ ap (λ (k : ℕ). common_width k us) first) (λ l. common-after u us each.0 each.1 l)
-    where
-      go : (b : Bool) → eqb v u ≡ b → w ≡ common_width (cond b u mixed) us → (w ≡ common_width u us → (u ≡ w) × (us ≡ copies (length us) w))
-          → (v ≡ w) × ((u ∷ us) ≡ copies (length (u ∷ us)) w)
-      go true h e after = let rest = after e in (eqb-true v u h ∙ rest.0, λ i. rest.0 i ∷ rest.1 i)
-      go false h e after = absurd (one (e ∙ mixed-stays us))
-
-  -- and all of them
-  common-all : (ws : List ℕ) → EachWide ws → 0 < total ws → w ≡ common_width 0 ws → NumberWide w × (ws ≡ copies (length ws) w)
-  unfolding common_width joined_width copies EachWide total
-  common-all [] each some e = absurd (omega arith)
-  common-all (u ∷ us) each some e =
-      let rest = common-after u us each.0 each.1 e in
-      (subst NumberWide rest.0 each.0, λ i. rest.0 i ∷ rest.1 i)
+-- and all of them
+common-all : (w : ℕ) (ws : List ℕ) → EachWide ws → Width w ≡ common_width Free ws → NumberWide w × (ws ≡ copies (length ws) w)
+unfolding common_width copies EachWide
+common-all w [] each e = absurd (cc)
+common-all w (u ∷ us) each e =
+    let rest = common-after w u us e in
+    (subst NumberWide rest.0 each.0, λ i. rest.0 i ∷ rest.1 i)
 
 -- values of a type that each take `step` bytes
 module _ (t : Tree) (step : ℕ) (even : Even t step) where
@@ -139,10 +129,6 @@ module _ (t : Tree) (step : ℕ) (even : Even t step) where
   pub even-total : total (numbers_in t) ≡ step
   unfolding least
   even-total = type-total t even-fixed ∙ sym (ap least even.is)
-
--- where they vary
-pub not-stepped : (t : Tree) (n : ℕ) → Stepped t n 0
-not-stepped t n = record { even = λ h. absurd (omega arith); some = λ h. omega arith }
 
 -- of a type that stands somewhere
 module _ (d : List ℕ) (p left : ℕ) (type : TypeStands d p left) (step : ℕ) (even : Even (type_at d p) step) where
@@ -156,15 +142,16 @@ module _ (d : List ℕ) (p left : ℕ) (type : TypeStands d p left) (step : ℕ)
       omega (arith, few.tokens, few.many)
 
   -- their numbers have one width
-  module _ (w : ℕ) (common : w ≡ common_width 0 numbers) (one : w ≡ mixed → ⊥) where
+  module _ (w : ℕ) (common : Width w ≡ common_width Free numbers) where
     all : NumberWide w × (numbers ≡ copies (length numbers) w)
-    all = common-all w one numbers (type-wide (type_at d p) (type-solid d p left type)) (omega (arith, even-total (type_at d p) step even, even-some)) common
+    all = common-all w numbers (type-wide (type_at d p) (type-solid d p left type)) common
 
     pub one-wide : NumberWide w
     one-wide = all.0
 
+    -- a number's width is not 0
     pub one-some : w ≡ 0 → ⊥
-    one-some = some-wide w all.0
+    one-some e = omega (arith, one-wide.else (λ h. omega arith) (λ h. omega arith) (λ h. omega arith) (λ h. omega arith))
 
     size : step ≡ length numbers * w
     size = sym (even-total (type_at d p) step even) ∙ ap total all.1 ∙ total-copies (length numbers) w

@@ -6,7 +6,7 @@ use mathlib.Core.List.{List, [], ◌∷◌, ◌++◌}
 use Prim.Native.Nat.{ℕ, suc, ◌+◌, ◌-◌, ◌<◌, ◌≤◌}
 use native.Mathlib.Nat.{sub-zero, add-zero}
 use native.Mathlib.Omega.{arith}
-use borrow.Author.Tests.{eq-eqb, eqb-true}
+use borrow.Author.Tests.{eq-eqb}
 use lib.Dec.{eqb}
 use lib.ListN.{length}
 use Rattle.descriptor.specs.Codes.{kind_of, is_complex}
@@ -22,8 +22,10 @@ use Rattle.flattened.specs.inner.Types.{type_at, types_at, RowStands, fields_kin
 use Rattle.flattened.proofs.Cases.{it, is-measured, not-measured, types-inside, compound-inside}
 use Rattle.flattened.proofs.Codes.{is_measured}
 use Rattle.flattened.proofs.Types.{RowTurn, row-turn}
+use Rattle.columns.specs.declared.even.Common.{Common}
+use Rattle.columns.specs.declared.even.Common.TheVariants.{Free, Width, Mixed}
 use Rattle.byte_order.specs.Reversal.{number_count, number_width}
-use Rattle.columns.specs.inner.Columns.{copies, numbers_fields, numbers_in, numbers_all, total, mixed, joined_width, common_width, turned_columns, Spread, ColumnsTurned}
+use Rattle.columns.specs.inner.Columns.{copies, numbers_fields, numbers_in, numbers_all, total, joined_width, common_width, turned_columns, Spread, ColumnsTurned}
 use Rattle.columns.proofs.ColumnTurns.{spread-as}
 use Rattle.byte_order.proofs.Widths.{numbers-all}
 use Rattle.columns.proofs.Elements.{total-append, total-copies, columns-append, columns-length}
@@ -82,35 +84,27 @@ module _ (d : List ℕ) (p : ℕ) (here : Stands d p) where
       opened
       ∙ fields-other (it d p here).code (it d p here).fields (numbers_all (it d p here).inner) (not-measured d p here e) (ap is_compound (it d p here).kind ∙ h)
 
+self : (w : ℕ) → joined_width (Width w) w ≡ Width w
+self w = ap (λ (b : Bool). cond b (Width w) Mixed) (eq-eqb w w refl)
+
 -- a width that is joined again stays
-joined-again : (before w : ℕ) → joined_width (joined_width before w) w ≡ joined_width before w
-unfolding joined_width mixed
-joined-again before w = go (eqb before 0) refl
+joined-again : (before : Common) (w : ℕ) → joined_width (joined_width before w) w ≡ joined_width before w
+joined-again Free w = self w
+joined-again (Width v) w = go (eqb v w)
   where
-    self : (b : Bool) → cond b w (cond (eqb w w) w mixed) ≡ w
-    self true = refl
-    self false = ap (λ (b : Bool). cond b w mixed) (eq-eqb w w refl)
-
-    other : (b : Bool) → eqb 32 w ≡ b → cond b w 32 ≡ 32
-    other true e = sym (eqb-true 32 w e)
-    other false e = refl
-
-    second : (b : Bool) → cond (eqb (cond b w 32) 0) w (cond (eqb (cond b w 32) w) w 32) ≡ cond b w 32
-    second true = self (eqb w 0)
-    second false = other (eqb 32 w) refl
-
-    go : (b : Bool) → eqb before 0 ≡ b → joined_width (joined_width before w) w ≡ joined_width before w
-    go true e = rw e (self (eqb w 0))
-    go false e = rw e (second (eqb before w))
+    go : (b : Bool) → joined_width (cond b (Width w) Mixed) w ≡ cond b (Width w) Mixed
+    go true = self w
+    go false = refl
+joined-again Mixed w = refl
 
 -- the width of widths one after another
-pub common-append : (before : ℕ) (us ws : List ℕ) → common_width before (us ++ ws) ≡ common_width (common_width before us) ws
+pub common-append : (before : Common) (us ws : List ℕ) → common_width before (us ++ ws) ≡ common_width (common_width before us) ws
 unfolding common_width
 common-append before [] ws = refl
 common-append before (u ∷ us) ws = common-append (joined_width before u) us ws
 
 -- a scalar's one number, or two
-pub common-scalar : (before c : ℕ) → joined_width before (number_width c) ≡ common_width before (copies (number_count c) (number_width c))
+pub common-scalar : (before : Common) (c : ℕ) → joined_width before (number_width c) ≡ common_width before (copies (number_count c) (number_width c))
 unfolding common_width copies number_count
 common-scalar before c = go (is_complex c)
   where
@@ -169,12 +163,12 @@ no-numbers d k p i done =
     ap (λ (n : ℕ). numbers_all (types_at d n p)) e ∙ ap (λ (f : Forest). numbers_all f) (ap forest_of (row-none d p))
 
 -- the loop that finds the width
-module _ (d : List ℕ) (start k before left : ℕ) where
+module _ (d : List ℕ) (start k : ℕ) (before : Common) (left : ℕ) where
   abbrev all : List ℕ
   all = numbers_all (types_at d k start)
 
   -- i of the types have been passed, up to p
-  pub record CommonLoop (p w i : ℕ) : Type 0 where
+  pub record CommonLoop (p : ℕ) (w : Common) (i : ℕ) : Type 0 where
     pub most : i ≤ k
     pub row : RowStands d (k - i) p left
     pub same : common_width before all ≡ common_width w (numbers_all (types_at d (k - i) p))
@@ -186,8 +180,8 @@ module _ (d : List ℕ) (start k before left : ℕ) where
     same = ap (λ (n : ℕ). common_width before (numbers_all (types_at d n start))) (sym (sub-zero k));
   }
 
-  module _ (p w i : ℕ) (loop : CommonLoop p w i) where
-    pub common-next : (more : i < k) (v : ℕ) → v ≡ common_width w (numbers_in (type_at d p)) → CommonLoop (p + size_in d p) v (i + 1)
+  module _ (p : ℕ) (w : Common) (i : ℕ) (loop : CommonLoop p w i) where
+    pub common-next : (more : i < k) (v : Common) → v ≡ common_width w (numbers_in (type_at d p)) → CommonLoop (p + size_in d p) v (i + 1)
     common-next more v e =
         let rest : List ℕ = numbers_all (types_at d (k - (i + 1)) (p + size_in d p)) in
         record {
@@ -197,7 +191,7 @@ module _ (d : List ℕ) (start k before left : ℕ) where
               loop.same
               ∙ ap (common_width w) (next-numbers d k p left i loop.row more)
               ∙ common-append w (numbers_in (type_at d p)) rest
-              ∙ ap (λ (u : ℕ). common_width u rest) (sym e);
+              ∙ ap (λ (u : Common). common_width u rest) (sym e);
         }
 
     pub common-end : k ≤ i → w ≡ common_width before all

@@ -5,102 +5,35 @@ ghost use Rattle.byte_order.specs.inner.Turning.{NumberWide};
 ghost use Rattle.columns.specs.inner.Columns.{copies, turned_column, turned_columns, Spread};
 ghost use Rattle.byte_order.specs.Reversal.{number_count, number_width};
 
-use byte_order::numbers::{turn_number_2, turn_number_4, turn_number_8, turn_number_16};
+use byte_order::numbers::Turn;
 use byte_order::scalars::is_complex;
 
-// n single bytes, which stay as they are, each `step` bytes past the one before.
-fn turn_column_1(s: &[u8], out: &mut [u8], at: usize, step: usize, n: usize)
-    requires { Spread s.now out.old (at + 1) step n }
-    ensures { out.new ≡ turned_column 1 s.now step n at out.old }
+// n numbers of the type N, the first at `at` and each `step` bytes past the one before.
+fn turn_column_of<N: Turn>(s: &[u8], out: &mut [u8], at: usize, step: usize, n: usize)
+    requires { Spread s.now out.old (at + N.WIDTH) step n }
+    ensures { out.new ≡ turned_column N.WIDTH s.now step n at out.old }
 {
+    // `at + i * step` in the place of p makes the loop longer: fewer of its turns are unrolled.
     let mut p = at;
-    let mut i = 0;
-    while i < n {
-        out[p] = s[p];
+    for _i in 0..n {
+        N::turn(s, out, p);
         p += step;
-        i += 1;
     }
 }
 
-// n numbers of two bytes, each `step` bytes past the one before.
-fn turn_column_2(s: &[u8], out: &mut [u8], at: usize, step: usize, n: usize)
-    requires { Spread s.now out.old (at + 2) step n }
-    ensures { out.new ≡ turned_column 2 s.now step n at out.old }
-{
-    let mut p = at;
-    let mut i = 0;
-    while i < n {
-        turn_number_2(s, out, p);
-        p += step;
-        i += 1;
-    }
-}
-
-// n numbers of four bytes, each `step` bytes past the one before.
-fn turn_column_4(s: &[u8], out: &mut [u8], at: usize, step: usize, n: usize)
-    requires { Spread s.now out.old (at + 4) step n }
-    ensures { out.new ≡ turned_column 4 s.now step n at out.old }
-{
-    let mut p = at;
-    let mut i = 0;
-    while i < n {
-        turn_number_4(s, out, p);
-        p += step;
-        i += 1;
-    }
-}
-
-// n numbers of eight bytes, each `step` bytes past the one before.
-fn turn_column_8(s: &[u8], out: &mut [u8], at: usize, step: usize, n: usize)
-    requires { Spread s.now out.old (at + 8) step n }
-    ensures { out.new ≡ turned_column 8 s.now step n at out.old }
-{
-    let mut p = at;
-    let mut i = 0;
-    while i < n {
-        turn_number_8(s, out, p);
-        p += step;
-        i += 1;
-    }
-}
-
-// n numbers of sixteen bytes, each `step` bytes past the one before.
-fn turn_column_16(s: &[u8], out: &mut [u8], at: usize, step: usize, n: usize)
-    requires { Spread s.now out.old (at + 16) step n }
-    ensures { out.new ≡ turned_column 16 s.now step n at out.old }
-{
-    let mut p = at;
-    let mut i = 0;
-    while i < n {
-        turn_number_16(s, out, p);
-        p += step;
-        i += 1;
-    }
-}
-
-// n numbers of w bytes, the first at `at` and each `step` bytes past the one before.
+// n numbers of w bytes each.
 fn turn_column(s: &[u8], out: &mut [u8], at: usize, w: usize, step: usize, n: usize)
     requires number_wide { NumberWide w }
     requires spread { Spread s.now out.old (at + w) step n }
     ensures { out.new ≡ turned_column w s.now step n at out.old }
 {
-    if w == 8 {
-        turn_column_8(s, out, at, step, n);
-        return;
+    match w {
+        8 => turn_column_of::<u64>(s, out, at, step, n),
+        4 => turn_column_of::<u32>(s, out, at, step, n),
+        2 => turn_column_of::<u16>(s, out, at, step, n),
+        16 => turn_column_of::<u128>(s, out, at, step, n),
+        _ => turn_column_of::<u8>(s, out, at, step, n),
     }
-    if w == 4 {
-        turn_column_4(s, out, at, step, n);
-        return;
-    }
-    if w == 2 {
-        turn_column_2(s, out, at, step, n);
-        return;
-    }
-    if w == 16 {
-        turn_column_16(s, out, at, step, n);
-        return;
-    }
-    turn_column_1(s, out, at, step, n);
 }
 
 // n scalars of the code `code`, of w bytes each.
@@ -121,7 +54,7 @@ pub fn turn_scalar_column(
         let half = w / 2;
         turn_column(s, out, at, half, step, n);
         turn_column(s, out, at + half, half, step, n);
-        return;
+    } else {
+        turn_column(s, out, at, w, step, n);
     }
-    turn_column(s, out, at, w, step, n);
 }

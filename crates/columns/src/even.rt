@@ -1,6 +1,6 @@
 // An array's elements that all take the same bytes: as one run of numbers where they have one width, else column by column, the numbers
 // that stand at one place of every element in one loop.
-ghost use Rattle.std.specs.Prelude.{◌≡◌, ◌+◌};
+ghost use Rattle.std.specs.Prelude.{◌≡◌, ◌+◌, IfSome};
 ghost use Rattle.flattened.specs.inner.Types.{type_at, types_at, TypeStands, RowStands};
 ghost use Rattle.columns.specs.inner.Columns.{numbers_in, numbers_all, total, joined_width, common_width, turned_elements, Spread, Laid, Even, Stepped, ColumnsTurned};
 
@@ -13,31 +13,36 @@ use descriptor::inside::inside_of;
 use descriptor::width::width;
 use flattened::extent::{Extent, extent_of};
 
-// Numbers of several widths have this one, which is no number's.
-const MIXED: usize = 32;
-
 // How many bytes of elements are turned at a time.
 const NEAR: usize = 8192;
 
 // How many elements are worth a look at their type.
 const SEVERAL: usize = 4;
 
-// The width of numbers of both widths; 0 is that of no numbers.
-fn joined_width(before: usize, w: usize) -> usize
+// The width that numbers have in common.
+#[derive(Clone, Copy, Debug, PartialEq, Eq)]
+enum Common {
+    // There are no numbers.
+    Free,
+    Width(usize),
+    // They have several.
+    Mixed,
+}
+
+// The width of numbers of the width `before` and one of w bytes.
+fn joined_width(before: Common, w: usize) -> Common
     ensures { result ≡ joined_width before w }
 {
-    if before == 0 {
-        return w;
+    match before {
+        Common::Free => Common::Width(w),
+        Common::Width(v) if v == w => Common::Width(w),
+        _ => Common::Mixed,
     }
-    if before == w {
-        return w;
-    }
-    MIXED
 }
 
 // The width of the numbers of the type at p, after others of the width `before`.
 #[cycle(common_row_common_width)]
-fn common_width(d: &[u8], p: usize, before: usize, left: usize) -> usize
+fn common_width(d: &[u8], p: usize, before: Common, left: usize) -> Common
     requires { TypeStands d.now p left }
     ensures { result ≡ common_width before (numbers_in (type_at d.now p)) }
 {
@@ -55,17 +60,15 @@ fn common_width(d: &[u8], p: usize, before: usize, left: usize) -> usize
 
 // And those of the k types that stand in a row from `start` on.
 #[cycle(common_row_common_width)]
-fn common_row(d: &[u8], start: usize, k: usize, before: usize, left: usize) -> usize
+fn common_row(d: &[u8], start: usize, k: usize, before: Common, left: usize) -> Common
     requires { RowStands d.now k start left }
     ensures { result ≡ common_width before (numbers_all (types_at d.now k start)) }
 {
     let mut p = start;
     let mut w = before;
-    let mut i = 0;
-    while i < k {
+    for _i in 0..k {
         w = common_width(d, p, w, left);
         p += size_at(d, p);
-        i += 1;
     }
     w
 }
@@ -118,11 +121,9 @@ fn turn_columns_row(
 {
     let mut p = start;
     let mut at = from;
-    let mut i = 0;
-    while i < k {
+    for _i in 0..k {
         at = turn_columns(d, p, s, out, at, step, n, left);
         p += size_at(d, p);
-        i += 1;
     }
     at
 }
@@ -170,26 +171,24 @@ pub fn turn_even(
     requires laid { Laid s.now out.old from step n }
     ensures { out.new ≡ turned_elements (numbers_in (type_at d.now p)) s.now step n from out.old }
 {
-    let w = common_width(d, p, 0, left);
-    if w != MIXED {
+    if let Common::Width(w) = common_width(d, p, Common::Free, left) {
         turn_run(s, out, from, w, n * (step / w));
-        return;
+    } else {
+        turn_blocks(d, p, n, s, out, from, step, left);
     }
-    turn_blocks(d, p, n, s, out, from, step, left);
 }
 
-// The bytes that each of n values of the type at p takes; 0 where they vary, or are too few to be looked at together.
-pub fn even_step(d: &[u8], p: usize, n: usize, left: usize) -> usize
+// The bytes that each of n values of the type at p takes, where they do not vary and the values are enough to be looked at together.
+pub fn even_step(d: &[u8], p: usize, n: usize, left: usize) -> Option<usize>
     requires { TypeStands d.now p left }
-    ensures { Stepped (type_at d.now p) n result }
+    ensures { IfSome result (Stepped (type_at d.now p) n) }
 {
     if n < SEVERAL {
-        return 0;
+        return None;
     }
-    let extent = extent_of(d, p, left);
-    match extent {
-        Extent::Varies => 0,
-        Extent::Fixed(step, tokens, judged) => step,
-        Extent::Around(before, after, tokens, judged) => 0,
+    match extent_of(d, p, left) {
+        Extent::Varies => None,
+        Extent::Fixed(step, _, _) => Some(step),
+        Extent::Around(before, _, _, _) => None,
     }
 }

@@ -1,15 +1,19 @@
 -- The largest of numbers that stand equally far apart, over their width: one number more, and that none is larger; so where the largest is
 -- below a limit, each is. Rests on the definition alone.
-use mathlib.Core.Path.{◌≡◌, refl, sym, ap, ap₂, subst, ◌∙◌}
+use mathlib.Core.Path.{◌≡◌, refl, ap, subst}
 use mathlib.Core.List.{List}
 use Prim.Native.Nat.{ℕ, zero, suc, ◌+◌, ◌-◌, ◌*◌, ◌<◌, ◌≤◌, max}
 use native.Mathlib.Nat.{add-mul, mul-le-mul_right, le-max_left, le-max_right}
 use native.Mathlib.Decide.{dec_lt}
 use native.Mathlib.Numerals.{add-one}
 use native.Mathlib.Omega.{arith}
+use mathlib.Core.Bool.{cond}
+use Rattle.std.specs.Ordering.{nat_cmp, ord_max, is_lt, MatchOrdering}
+use Rattle.std.proofs.lemmas.Cmp.{ranked}
+use Rattle.std.specs.declared.cmp.Ordering.{Ordering}
+use Rattle.std.specs.declared.cmp.Ordering.TheVariants.{Less, Equal, Greater}
 use Rattle.flattened.specs.Order.{Order, number_at}
 use Rattle.elements.specs.inner.Largest.{largest, EachLow}
-use Rattle.flattened.proofs.Judged.{byte-number}
 
 -- the first k of n numbers of w bytes lie inside what n take, and so do the j after them
 pub fewer-within : (w at end k n : ℕ) → k ≤ n → at + n * w ≤ end → at + k * w ≤ end
@@ -25,15 +29,21 @@ apart-here w step at end k n h room = omega (arith, more_within step at (at + n 
 pub apart_more : (w step at end k j n : ℕ) → k + j ≤ n → at + n * step + w ≤ end + step → at + k * step + j * step + w ≤ end + step
 apart_more w step at end k j n h room = omega (arith, more_within step at (at + n * step) k j n h (omega arith))
 
+-- the larger of two values that are ordered as their numbers are
+pub larger : {A : Type 0} (value : A → ℕ) (cmp : A → A → Ordering) → ((x y : A) → cmp x y ≡ nat_cmp (value x) (value y)) → (a b : A)
+    → value (ord_max cmp a b) ≡ max (value a) (value b)
+larger value cmp ordered a b = go (cmp b a) (ranked (value b) (value a) (cmp b a) (ordered b a))
+  where
+    go : (o : Ordering) → MatchOrdering o (value b < value a) (value b ≡ value a) (value a < value b) → value (cond (is_lt o) a b) ≡ max (value a) (value b)
+    go Less h = omega arith
+    go Equal h = omega arith
+    go Greater h = omega arith
+
 module _ (o : Order) (s : List ℕ) (w step at : ℕ) where
   -- one number more
-  largest-more : (n : ℕ) → largest o s w step at (n + 1) ≡ max (largest o s w step at n) (number_at o s (at + n * step) w)
+  pub largest-more : (n : ℕ) → largest o s w step at (n + 1) ≡ max (largest o s w step at n) (number_at o s (at + n * step) w)
   unfolding largest
   largest-more n = rw (add-one n) refl
-
-  pub largest-turn : (i most v m : ℕ) → most ≡ largest o s w step at i → v ≡ number_at o s (at + i * step) w → m ≡ max most v
-      → m ≡ largest o s w step at (i + 1)
-  largest-turn i most v m e ev em = em ∙ ap₂ max e ev ∙ sym (largest-more i)
 
   -- none is larger
   pub largest-most : (n i : ℕ) → i < n → number_at o s (at + i * step) w ≤ largest o s w step at n
@@ -53,12 +63,6 @@ module _ (o : Order) (s : List ℕ) (w step at : ℕ) where
           let here : i ≡ n = omega arith in
           let same : number_at o s (at + i * step) w ≡ last = ap (λ (j : ℕ). number_at o s (at + j * step) w) here in
           omega (arith, le-max_right most last)
-
--- bytes are the same numbers in either order
-pub largest-bytes : (o u : Order) (s : List ℕ) (step at n : ℕ) → largest o s 1 step at n ≡ largest u s 1 step at n
-unfolding largest
-largest-bytes o u s step at zero = refl
-largest-bytes o u s step at (suc n) = ap₂ max (largest-bytes o u s step at n) (byte-number o s (at + n * step) ∙ sym (byte-number u s (at + n * step)))
 
 -- numbers whose largest is below a limit are each below it
 pub each-low : (limit : ℕ) (o : Order) (s : List ℕ) (w step at n : ℕ) → largest o s w step at n < limit → EachLow limit o s w step at n

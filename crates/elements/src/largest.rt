@@ -1,84 +1,45 @@
 // The largest of numbers that stand equally far apart, one tight loop for each width; and by it, how many of them are below a limit.
 ghost use Rattle.std.specs.Prelude.{◌≡◌, ◌≤◌, ◌<◌};
-ghost use Rattle.flattened.specs.Order.{big};
 ghost use Rattle.flattened.specs.inner.Order.{order_of, Narrow};
 ghost use Rattle.elements.specs.inner.Largest.{largest, Apart, EachLow};
 
-use flattened::order::{Order, number_2, number_4};
+use flattened::order::{Number, Order};
 
-// The largest of n bytes.
-fn largest_1(s: &[u8], at: usize, step: usize, n: usize) -> u8
-    requires { Apart s.now 1 step at n }
-    ensures { result ≡ largest big s.now 1 step at n }
+// The largest of n numbers of the type N, the first at `at`, and each `step` bytes after the one before it.
+fn largest_of<N: Number>(s: &[u8], at: usize, step: usize, n: usize, o: Order) -> usize
+    requires { Apart s.now N.WIDTH step at n }
+    ensures { result ≡ largest (order_of o) s.now N.WIDTH step at n }
 {
-    let mut most: u8 = 0;
-    let mut i = 0;
-    while i < n {
-        let v = s[at + i * step];
-        if most < v {
-            most = v;
-        }
-        i += 1;
+    let mut most = N::default();
+    for i in 0..n {
+        most = most.max(N::read(s, at + i * step, o));
     }
-    most
+    most.wide()
 }
 
-// The largest of n numbers of two bytes.
-fn largest_2(s: &[u8], at: usize, step: usize, n: usize, o: Order) -> u16
-    requires { Apart s.now 2 step at n }
-    ensures { result ≡ largest (order_of o) s.now 2 step at n }
+// The same. Where they stand side by side, the step is a constant, with which the loop is faster.
+fn largest_at<N: Number>(s: &[u8], at: usize, step: usize, n: usize, o: Order) -> usize
+    requires { Apart s.now N.WIDTH step at n }
+    ensures { result ≡ largest (order_of o) s.now N.WIDTH step at n }
 {
-    let mut most: u16 = 0;
-    let mut i = 0;
-    while i < n {
-        let v = number_2(s, at + i * step, o);
-        if most < v {
-            most = v;
-        }
-        i += 1;
+    if step == N::WIDTH {
+        largest_of::<N>(s, at, N::WIDTH, n, o)
+    } else {
+        largest_of::<N>(s, at, step, n, o)
     }
-    most
 }
 
-// The largest of n numbers of four bytes.
-fn largest_4(s: &[u8], at: usize, step: usize, n: usize, o: Order) -> u32
-    requires { Apart s.now 4 step at n }
-    ensures { result ≡ largest (order_of o) s.now 4 step at n }
-{
-    let mut most: u32 = 0;
-    let mut i = 0;
-    while i < n {
-        let v = number_4(s, at + i * step, o);
-        if most < v {
-            most = v;
-        }
-        i += 1;
-    }
-    most
-}
-
-// The largest of n numbers of w bytes each, one, two or four: the first at `at`, and each `step` bytes after the one before it.
+// The largest of n numbers of w bytes each, one, two or four.
 pub fn largest(s: &[u8], at: usize, w: usize, step: usize, n: usize, o: Order) -> usize
     requires narrow { Narrow w }
     requires apart { Apart s.now w step at n }
     ensures { result ≡ largest (order_of o) s.now w step at n }
 {
-    if w == 1 {
-        if step == 1 {
-            return largest_1(s, at, 1, n) as usize;
-        }
-        return largest_1(s, at, step, n) as usize;
+    match w {
+        1 => largest_at::<u8>(s, at, step, n, o),
+        2 => largest_at::<u16>(s, at, step, n, o),
+        _ => largest_at::<u32>(s, at, step, n, o),
     }
-    if w == 2 {
-        if step == 2 {
-            return largest_2(s, at, 2, n, o) as usize;
-        }
-        return largest_2(s, at, step, n, o) as usize;
-    }
-    if step == 4 {
-        return largest_4(s, at, 4, n, o) as usize;
-    }
-    largest_4(s, at, step, n, o) as usize
 }
 
 // How many of the first of n such numbers are below a limit: all of them, or those before one that is not, which is found by halves.
@@ -135,7 +96,7 @@ pub fn low(limit: usize, s: &[u8], at: usize, w: usize, step: usize, n: usize, o
     let mut count = 0;
     let mut stretch = 1;
     while count < n {
-        let span = shorter(stretch, n - count);
+        let span = stretch.min(n - count);
         let more = low_within(limit, s, at + count * step, w, step, span, o);
         count += more;
         if more < span {

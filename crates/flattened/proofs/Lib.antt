@@ -5,7 +5,6 @@ pub mod Extents
 pub mod Capped
 pub mod Refusals
 pub mod Progresses
-pub mod Swapped
 pub mod Steps
 pub mod Turns
 pub mod Strings

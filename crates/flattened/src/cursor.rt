@@ -4,7 +4,7 @@ ghost use Rattle.flattened.specs.Order.{number_at};
 ghost use Rattle.flattened.specs.inner.Order.{order_of};
 ghost use Rattle.flattened.specs.inner.Cursor.{cursor, skipped, word_at};
 
-use super::order::{Order, number_4};
+use super::order::{Number, Order};
 
 // Where the next token starts: "Each piece starts exactly where the one before it ended".
 #[derive(Clone, Copy, Debug, PartialEq, Eq)]
@@ -33,7 +33,7 @@ impl Cursor {
         requires { self.at + 4 ≤ length s.now }
         ensures { result ≡ number_at (order_of o) s.now self.at 4 }
     {
-        number_4(s, self.at, o) as usize
+        u32::read(s, self.at, o) as usize
     }
 
     // Past n bytes; none where the data ends before.

@@ -1,66 +1,108 @@
-// Numbers of one, two and four bytes in a byte order. A number is read least significant byte first, as one load, and swapped by value;
-// each step is a function of its own, so that it is simplified before it is put into a loop.
-ghost use Rattle.std.specs.Prelude.{◌≡◌, ◌+◌, ◌≤◌, length};
-ghost use Rattle.number.specs.Endian.{le};
+// Numbers of one, two and four bytes in a byte order.
+ghost use Rattle.std.specs.Prelude.{◌≡◌, ℕ, ◌+◌, ◌≤◌, length, refl};
+ghost use Rattle.std.specs.Ordering.{nat_cmp};
 ghost use Rattle.flattened.specs.Order.{number_at};
-ghost use Rattle.flattened.specs.inner.Order.{order_of, swapped, Narrow};
-
-use number::endian::read_le;
+ghost use Rattle.flattened.specs.inner.Order.{order_of, Narrow};
 
 // "All big-endian", or "these words read reversed".
-#[derive(Clone, Copy)]
+#[derive(Clone, Copy, Debug, PartialEq, Eq)]
 pub enum Order {
     Big,
     Little,
 }
 
-fn little_2(s: &[u8], at: usize) -> u16
-    requires { at + 2 ≤ length s.now }
-    ensures { result ≡ le s.now at 2 }
-{
-    read_le(s, at, 2) as u16
+// The numbers of one width, by the type that holds one.
+pub trait Number: Copy + Default + Ord {
+    // How many bytes a number has.
+    ghost WIDTH: { ℕ };
+
+    // Which one it is.
+    ghost value: { Self → ℕ };
+
+    const WIDTH: usize;
+
+    // The number at `at`.
+    fn read(s: &[u8], at: usize, o: Order) -> Self
+        requires { at + WIDTH ≤ length s.now }
+        ensures { value result ≡ number_at (order_of o) s.now at WIDTH };
+
+    // The same as a `usize`.
+    fn wide(self) -> usize
+        ensures { result ≡ value self };
+
+    // What `default` gives is 0.
+    ghost starts: { (x : Self) → Self.is_default x → value x ≡ 0 };
+
+    // They are ordered as the numbers are.
+    ghost ordered: { (x y : Self) → Self.cmp x y ≡ nat_cmp (value x) (value y) };
 }
 
-fn swap_2(v: u16) -> u16
-    ensures { result ≡ swapped 2 v }
-{
-    v % 256 * 256 + v / 256
-}
+// A byte is the same number in either order.
+impl Number for u8 {
+    ghost WIDTH = { 1 };
 
-// The number of the two bytes at `at`.
-pub fn number_2(s: &[u8], at: usize, o: Order) -> u16
-    requires { at + 2 ≤ length s.now }
-    ensures { result ≡ number_at (order_of o) s.now at 2 }
-{
-    let v = little_2(s, at);
-    match o {
-        Order::Big => swap_2(v),
-        Order::Little => v,
+    ghost value = { λ x. x };
+
+    ghost starts = { λ x e. e };
+
+    ghost ordered = { λ x y. refl };
+
+    const WIDTH: usize = 1;
+
+    fn read(s: &[u8], at: usize, _o: Order) -> u8 {
+        s[at]
+    }
+
+    fn wide(self) -> usize {
+        self as usize
     }
 }
 
-fn little_4(s: &[u8], at: usize) -> u32
-    requires { at + 4 ≤ length s.now }
-    ensures { result ≡ le s.now at 4 }
-{
-    read_le(s, at, 4) as u32
+impl Number for u16 {
+    ghost WIDTH = { 2 };
+
+    ghost value = { λ x. x };
+
+    ghost starts = { λ x e. e };
+
+    ghost ordered = { λ x y. refl };
+
+    const WIDTH: usize = 2;
+
+    fn read(s: &[u8], at: usize, o: Order) -> u16 {
+        let bytes = [s[at], s[at + 1]];
+        match o {
+            Order::Big => u16::from_be_bytes(bytes),
+            Order::Little => u16::from_le_bytes(bytes),
+        }
+    }
+
+    fn wide(self) -> usize {
+        self as usize
+    }
 }
 
-fn swap_4(v: u32) -> u32
-    ensures { result ≡ swapped 4 v }
-{
-    v % 256 * 16777216 + v / 256 % 256 * 65536 + v / 65536 % 256 * 256 + v / 16777216
-}
+impl Number for u32 {
+    ghost WIDTH = { 4 };
 
-// The number of the four bytes at `at`.
-pub fn number_4(s: &[u8], at: usize, o: Order) -> u32
-    requires { at + 4 ≤ length s.now }
-    ensures { result ≡ number_at (order_of o) s.now at 4 }
-{
-    let v = little_4(s, at);
-    match o {
-        Order::Big => swap_4(v),
-        Order::Little => v,
+    ghost value = { λ x. x };
+
+    ghost starts = { λ x e. e };
+
+    ghost ordered = { λ x y. refl };
+
+    const WIDTH: usize = 4;
+
+    fn read(s: &[u8], at: usize, o: Order) -> u32 {
+        let bytes = [s[at], s[at + 1], s[at + 2], s[at + 3]];
+        match o {
+            Order::Big => u32::from_be_bytes(bytes),
+            Order::Little => u32::from_le_bytes(bytes),
+        }
+    }
+
+    fn wide(self) -> usize {
+        self as usize
     }
 }
 
@@ -70,11 +112,9 @@ pub fn narrow_number(s: &[u8], at: usize, w: usize, o: Order) -> usize
     requires w_in_bounds { at + w ≤ length s.now }
     ensures { result ≡ number_at (order_of o) s.now at w }
 {
-    if w == 1 {
-        return s[at] as usize;
+    match w {
+        1 => u8::read(s, at, o).wide(),
+        2 => u16::read(s, at, o).wide(),
+        _ => u32::read(s, at, o).wide(),
     }
-    if w == 2 {
-        return number_2(s, at, o) as usize;
-    }
-    number_4(s, at, o) as usize
 }

@@ -7,7 +7,7 @@ ghost use Rattle.flattened.specs.inner.Sizes.{element_cap, capped_sizes};
 
 use super::cursor::Cursor;
 use super::limits::{ELEMENT_CAP, LENGTH_LIMIT};
-use super::order::{Order, number_4};
+use super::order::{Number, Order};
 use descriptor::refusal::{Fault, Refusal};
 
 // The number of elements, cut at `ELEMENT_CAP`, and the cursor past the size words, where the first of them starts.
@@ -36,7 +36,7 @@ pub fn size_words(s: &[u8], from: Cursor, dims: usize, o: Order) -> Result<Sizes
     };
     let mut count = 1;
     for i in 0..dims {
-        let size = number_4(s, at + 4 * i, o) as usize;
+        let size = u32::read(s, at + 4 * i, o) as usize;
         if LENGTH_LIMIT <= size {
             return Err(Fault::Length.at(at));
         }

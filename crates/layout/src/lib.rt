@@ -18,7 +18,7 @@ pub fn put_answer(answer: Answer, to: &mut [u32; 3])
 pub fn put_truth(yes: bool, to: &mut u8)
     ensures { to.new ≡ truth yes }
 {
-    *to = yes as u8;
+    *to = u8::from(yes);
 }
 
 // How many rows an answer to a descriptor check counts: none where it is a refusal.
@@ -26,23 +26,26 @@ pub fn rows_used(answer: Answer) -> usize
     ensures { result ≡ rows_used answer }
 {
     if answer.input == 0 {
-        return answer.place as usize;
+        answer.place as usize
+    } else {
+        0
     }
-    0
 }
 
 // A row's seven numbers, the first of them at `at`.
 fn put_row(row: Row, at: usize, to: &mut [u16; 1792])
-    requires { (at + 7 ≤ 1792) × (length to.old ≡ 1792) }
+    requires { at + 7 ≤ 1792 }
     ensures { to.new ≡ take at to.old ++ row_numbers row ++ drop (at + 7) to.old }
 {
-    to[at] = row.code;
-    to[at + 1] = row.start;
-    to[at + 2] = row.size;
-    to[at + 3] = row.depth;
-    to[at + 4] = row.count;
-    to[at + 5] = row.name_place;
-    to[at + 6] = row.name_length;
+    to[at..at + 7].copy_from_slice(&[
+        row.code,
+        row.start,
+        row.size,
+        row.depth,
+        row.count,
+        row.name_place,
+        row.name_length,
+    ]);
 }
 
 // The first n rows, and zeros after them.
@@ -51,9 +54,7 @@ pub fn put_rows(rows: [Row; 256], n: usize, to: &mut [u16; 1792])
     ensures { to.new ≡ rows_numbers (take n rows) ++ replicate (1792 - n * 7) 0 }
 {
     *to = [0u16; 1792];
-    let mut i = 0;
-    while i < n {
-        put_row(rows[i], i * 7, to);
-        i += 1;
+    for (i, row) in rows[..n].iter().enumerate() {
+        put_row(*row, i * 7, to);
     }
 }

@@ -5,7 +5,8 @@ use native.Mathlib.Nat.{pow-suc, pow-zero, pow-le-pow_right, add-zero, add_assoc
 use native.Mathlib.Numerals.{add-one}
 use native.Mathlib.Omega.{arith}
 use mathlib.Core.List.{List}
-use lib.ListN.{get_or}
+use lib.ListN.{length, get_or, take, drop, length-take}
+use lib.Seq.{get_or-take, get_or-drop}
 use Rattle.number.specs.Endian.{be, le}
 
 -- a width of one byte more is 256 times as many numbers
@@ -23,6 +24,12 @@ most h = pow-le-pow_right {n = 256} (omega arith) h
 -- with fewer than eight bytes, one byte more fits 64 bits
 pub byte_fits : (n : ℕ) {v b : ℕ} → n < 8 → v < 256 ^ n → b < 256 → v * 256 + b < 256 ^ 8
 byte_fits n l h k = omega (arith, byte_more n h k, most {n = n + 1} (omega arith))
+
+-- a byte of the part of n bytes that the loop goes over
+pub part-byte : (s : List ℕ) (at n i : ℕ) → i < length (take (at + n - at) (drop at s)) → get_or (take (at + n - at) (drop at s)) i 0 ≡ get_or s (at + i) 0
+part-byte s at n i h =
+    let inside : i < at + n - at = omega (arith, length-take (at + n - at) (drop at s)) in
+    rw (get_or-take (at + n - at) (drop at s) i 0 inside) (get_or-drop at s i 0)
 
 -- one byte more, of either order
 pub be-more : (s : List ℕ) (at n : ℕ) → be s at (n + 1) ≡ be s at n * 256 + get_or s (at + n) 0

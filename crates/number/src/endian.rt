@@ -36,10 +36,8 @@ pub fn read_be(s: &[u8], at: usize, n: usize) -> u64
     ensures { Bounded result (be s.now at n) (256 ^ n) }
 {
     let mut v: u64 = 0;
-    let mut i = 0;
-    while i < n {
-        v = v * 256 + wide(s[at + i]) as u64;
-        i += 1;
+    for byte in &s[at..at + n] {
+        v = v * 256 + u64::from(*byte);
     }
     v
 }
@@ -68,10 +66,8 @@ pub fn read_le(s: &[u8], at: usize, n: usize) -> u64
     ensures { Bounded result (le s.now at n) (256 ^ n) }
 {
     let mut v: u64 = 0;
-    let mut left = n;
-    while 0 < left {
-        left -= 1;
-        v = v * 256 + wide(s[at + left]) as u64;
+    for left in (0..n).rev() {
+        v = v * 256 + u64::from(s[at + left]);
     }
     v
 }
@@ -82,9 +78,7 @@ pub fn write_be(out: &mut [u8], at: usize, n: usize, v: u64)
     ensures { out.new ≡ sets out.old at (be_bytes n v) }
 {
     let mut rest = v;
-    let mut left = n;
-    while 0 < left {
-        left -= 1;
+    for left in (0..n).rev() {
         out[at + left] = (rest % 256) as u8;
         rest /= 256;
     }
@@ -96,10 +90,8 @@ pub fn write_le(out: &mut [u8], at: usize, n: usize, v: u64)
     ensures { out.new ≡ sets out.old at (le_bytes n v) }
 {
     let mut rest = v;
-    let mut i = 0;
-    while i < n {
+    for i in 0..n {
         out[at + i] = (rest % 256) as u8;
         rest /= 256;
-        i += 1;
     }
 }

@@ -10,16 +10,17 @@ fn half_range(n: usize) -> u64
     1u64 << (8 * n - 1)
 }
 
-// The two's complement number of n bytes whose bits are `bits`.
+// The two's complement number of n bytes whose bits are `bits`. The library's casts are for one, two, four and eight bytes alone.
 pub fn signed_of(bits: u64, n: usize) -> i64
     requires { (1 ≤ n) × (n ≤ 8) × (bits < 256 ^ n) }
     ensures { result ≡ signed n bits }
 {
     let half = half_range(n);
     if bits < half {
-        return bits as i64;
+        bits as i64
+    } else {
+        // 256 ^ n - 1 - bits, which fits where 256 ^ n need not
+        let below = (half - 1 - (bits - half)) as i64;
+        -1 - below
     }
-    // 256 ^ n - 1 - bits, which fits where 256 ^ n need not
-    let below = (half - 1 - (bits - half)) as i64;
-    -1 - below
 }

@@ -7,7 +7,7 @@ ghost use Rattle.flattened.specs.inner.Order.{order_of};
 ghost use Rattle.byte_order.specs.inner.Turning.{Room};
 ghost use Rattle.turning.specs.inner.Tokens.{SizesTurned};
 
-use byte_order::runs::turn_run_4;
+use byte_order::runs::turn_run_of;
 use flattened::cursor::Cursor;
 use flattened::order::Order;
 use flattened::sizes::{Sizes, size_words};
@@ -22,7 +22,7 @@ pub fn turn_sizes(s: &[u8], out: &mut [u8], at: usize, dims: usize, o: Order) ->
     let sizes = size_words(s, Cursor { at }, dims, o);
     match sizes {
         Sizes::Count(n, elements) => {
-            turn_run_4(s, out, at, dims);
+            turn_run_of::<u32>(s, out, at, dims);
             n
         }
         // Not in data that was accepted.

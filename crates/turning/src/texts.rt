@@ -3,9 +3,9 @@ ghost use Rattle.flattened.specs.Walk.{text_at, repeat};
 ghost use Rattle.flattened.specs.inner.Order.{order_of};
 ghost use Rattle.turning.specs.inner.Tokens.{Turnable, Turned};
 
-use byte_order::numbers::turn_number_4;
-use byte_order::runs::turn_run_1;
-use flattened::order::{Order, number_4};
+use byte_order::numbers::Turn;
+use byte_order::runs::turn_run_of;
+use flattened::order::{Number, Order};
 
 // The string at `at`.
 pub fn turn_text(s: &[u8], out: &mut [u8], at: usize, o: Order) -> usize
@@ -13,9 +13,9 @@ pub fn turn_text(s: &[u8], out: &mut [u8], at: usize, o: Order) -> usize
     ensures { Turned (text_at (order_of o) s.now at) s.now out.old out.new result }
 {
     let characters = at + 4;
-    let length = number_4(s, at, o) as usize;
-    turn_number_4(s, out, at);
-    turn_run_1(s, out, characters, length);
+    let length = u32::read(s, at, o) as usize;
+    u32::turn(s, out, at);
+    turn_run_of::<u8>(s, out, characters, length);
     characters + length
 }
 

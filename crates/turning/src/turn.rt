@@ -73,8 +73,7 @@ pub fn turn_values(
         return turn_texts(s, out, n, from, o);
     }
     if is_compound(code) {
-        let step = even_step(d, p, n, left);
-        if step != 0 {
+        if let Some(step) = even_step(d, p, n, left) {
             turn_even(d, p, n, s, out, from, step, left);
             return from + n * step;
         }

@@ -4,6 +4,8 @@ use Rattle.std.specs.Prelude.{◌≡◌, Bool, cond, List, [], ◌∷◌, ◌++�
 use Rattle.descriptor.specs.Tree.{Fields, empty, items, pairs, text, dimensions, members, subtype, Tree, node, Forest, nil, cons}
 use Rattle.flattened.specs.inner.Extent.{extent_of}
 use Rattle.flattened.specs.declared.extent.Extent.TheVariants.{Fixed}
+use Rattle.columns.specs.declared.even.Common.{Common}
+use Rattle.columns.specs.declared.even.Common.TheVariants.{Free, Width, Mixed}
 use Rattle.byte_order.specs.Reversal.{number_count, number_width}
 use Rattle.byte_order.specs.inner.Turning.{turned_at}
 
@@ -35,16 +37,14 @@ unfoldable pub total : List ℕ → ℕ
 total [] = 0
 total (w ∷ ws) = w + total ws
 
--- what `common_width` gives for numbers of several widths, which is no number's width
-unfoldable pub mixed : ℕ
-mixed = 32
+-- the width of numbers of the width `before` and one of w bytes
+abbrev pub joined_width : Common → ℕ → Common
+joined_width Free w = Width w
+joined_width (Width v) w = cond (eqb v w) (Width w) Mixed
+joined_width Mixed w = Mixed
 
--- the width of numbers of both widths; 0 is that of no numbers
-unfoldable pub joined_width : ℕ → ℕ → ℕ
-joined_width before w = cond (eqb before 0) w (cond (eqb before w) w mixed)
-
--- the width of all of them, after others of the width `before`
-unfoldable pub common_width : ℕ → List ℕ → ℕ
+-- the width that all of them have in common, after others of the width `before`
+unfoldable pub common_width : Common → List ℕ → Common
 common_width before [] = before
 common_width before (w ∷ ws) = common_width (joined_width before w) ws
 
@@ -86,10 +86,10 @@ pub record Even (t : Tree) (w : ℕ) : Type 0 where
   pub judged : Bool
   pub is : Fixed w tokens judged ≡ extent_of t
 
--- each of n values of the type takes `step` bytes, and there is at least one; or `step` is 0
+-- each of n values of the type takes `step` bytes, and there is at least one
 pub record Stepped (t : Tree) (n step : ℕ) : Type 0 where
-  pub even : 0 < step → Even t step
-  pub some : 0 < step → 0 < n
+  pub even : Even t step
+  pub some : 0 < n
 
 -- columns are turned, and the next one starts at `next`
 pub record ColumnsTurned (ws s : List ℕ) (step n at : ℕ) (before after : List ℕ) (next : ℕ) : Type 0 where

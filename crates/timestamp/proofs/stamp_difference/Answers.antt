@@ -1,28 +1,38 @@
--- `stamp_difference` meets its contract: a second is borrowed where the first fraction is less. Rests on `Taking`.
-
-use Rattle.std.proofs.Common.{◌≡◌, cond, ltb, ◌^◌, ◌<◌, sym, ◌∙◌, arith, rules}
-use Rattle.timestamp.specs.Difference.{time_of, given, difference}
-use Rattle.timestamp.proofs.Taking.{counts-handed, less_by, borrowed-less, borrowed-none, taken-gap, fraction-is}
+use Rattle.std.proofs.Common.{◌≡◌, ◌+◌, ◌-◌, ◌%◌, ◌^◌, ltb, pos, ◌-ℤ◌, ◌∙◌, arith, w64, SFits, to_z, of_z, to_z-of_z}
+use Rattle.timestamp.specs.Difference.{time_of, less, difference}
+use Rattle.timestamp.proofs.Taking.{wide, borrowed-few, borrowed-is, less-fits, less-is, seconds-handed, given-fit, given-far}
 use Rattle.timestamp.proofs.stamp_difference.Goals as goal
-use Rattle.timestamp.proofs.stamp_difference.Goals.{then-x-y, else-x-y}
+use Rattle.timestamp.proofs.stamp_difference.Goals.{After-from-2}
 
-pub taken-requires : goal.taken-requires
-taken-requires c = (elim c.if-x-y.branch [ then-x-y w ↦ omega (arith, w.borrowed-is) | else-x-y w ↦ omega (arith, w.borrowed-is) ])
-
-pub returns : goal.returns
-unfolding difference
-returns c =
-    let x = c.joined-x in
-    let y = c.joined-y in
+-- the seconds that are given or refused
+seconds : (c : After-from-2) → let a = c.args in
+    wide (wide (wide c.from.result -ℤ wide c.from-2.result) -ℤ wide c.from-borrowed.result) ≡ (less (time_of a.a a.b a.c a.d) (time_of a.e a.f a.g a.h)).seconds
+seconds c =
     let a = c.args in
-    let borrowed : c.if-x-y.borrowed ≡ cond (ltb (time_of a.a a.b a.c a.d).fraction (time_of a.e a.f a.g a.h).fraction) 1 0 =
-    (elim c.if-x-y.branch [ then-x-y w ↦ borrowed-less x.result y.result _ _ _ x.ensures.eq y.ensures.eq w.if-x-y.true w.borrowed-is | else-x-y w ↦ borrowed-none x.result y.result _ _ _ x.ensures.eq y.ensures.eq w.if-x-y.false w.borrowed-is ]) in
-    let start = c in
-    let first = counts-handed a.a a.b start.ranges.a start.ranges.b _ c.counted.ensures in
-    let second = counts-handed a.e a.f start.ranges.e start.ranges.f _ c.counted-2.ensures in
-    let seconds = taken-gap _ _ _ _ c.if-x-y.borrowed first second in
-    let range : c.wrapping_sub_u64.result < 2 ^ 64 = search rules in
-    let fraction = fraction-is _ _ _ c.wrapping_sub_u64.ensures.value range y.ensures.below in
-    c.taken.ensures
-    ∙ (λ i. given (record { seconds = sym seconds i; fraction = fraction i }))
-    ∙ λ i. given (less_by (time_of a.a a.b a.c a.d) (time_of a.e a.f a.g a.h) (borrowed i) (x.ensures.eq i) (y.ensures.eq i))
+    let r = c.ranges in
+    let whole = less-is c.seconds_of.result c.seconds_of-2.result c.seconds_of.type_inv c.seconds_of-2.type_inv (borrowed-few _) c.from.ensures c.from-2.ensures c.from-borrowed.ensures in
+    let first = c.seconds_of.ensures ∙ seconds-handed a.a a.b r.a r.b in
+    let second = c.seconds_of-2.ensures ∙ seconds-handed a.e a.f r.e r.f in
+    cc (borrowed-is (ltb c.fraction_of-x.result c.fraction_of-y.result))
+
+pub overflow_sub-seconds-2 : goal.overflow_sub-seconds-2
+overflow_sub-seconds-2 c = less-fits c.seconds_of.result c.seconds_of-2.result c.seconds_of.type_inv c.seconds_of-2.type_inv (borrowed-few _) c.from.ensures c.from-2.ensures c.from-borrowed.ensures
+
+pub returns-in-Ok : goal.returns-in-Ok
+unfolding difference
+returns-in-Ok c =
+    let a = c.args in
+    let t = less (time_of a.a a.b a.c a.d) (time_of a.e a.f a.g a.h) in
+    let s = seconds (goal.at.returns-in-Ok c).After-from-2 in
+    let fits : SFits w64 t.seconds = rw s at c.in-Ok.ensures.0 in
+    let given : to_z w64 (of_z w64 c.in-Ok.seconds) ≡ t.seconds = cc (c.in-Ok.ensures.1, to_z-of_z fits) in
+    let fraction : (c.fraction_of-x.result + (2 ^ 64 - c.fraction_of-y.result)) % 2 ^ 64 ≡ t.fraction = omega arith in
+    (λ i. record { answer = c.accepted.ensures i; seconds = given i; fraction = fraction i }) ∙ given-fit t fits
+
+pub returns-in-Err : goal.returns-in-Err
+unfolding difference
+returns-in-Err c =
+    let a = c.args in
+    let t = less (time_of a.a a.b a.c a.d) (time_of a.e a.f a.g a.h) in
+    let s = seconds (goal.at.returns-in-Err c).After-from-2 in
+    (λ i. record { answer = c.refused.ensures i; seconds = pos 0; fraction = 0 }) ∙ given-far t (rw s at c.in-Err.ensures)

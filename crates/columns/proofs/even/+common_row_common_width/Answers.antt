@@ -8,64 +8,42 @@ use Rattle.descriptor.proofs.Bodies.{header-room}
 use Rattle.flattened.proofs.Cases.{compound-inside, row_inside}
 use Rattle.flattened.proofs.Types.{type-deep}
 use Rattle.columns.specs.inner.Columns.{joined_width, common_width}
-use Rattle.columns.proofs.Numbers.{numbers-scalar, numbers-members, numbers-other, common-scalar, next-type, common-begin, common-next, common-end}
+use Rattle.columns.proofs.Numbers.{numbers-scalar, numbers-members, numbers-other, common-scalar, next-type, common-next, common-end}
 use Rattle.columns.proofs.even.+common_row_common_width.Goals as goal
-
-pub common_row-loop-i-init : goal.common_row-loop-i-init
-common_row-loop-i-init t c = let a = c.args in common-begin a.d.now a.start a.k a.before a.left c.requires
 
 pub common_row-common_width-w-requires : goal.common_row-common_width-w-requires
 common_row-common_width-w-requires t c =
     let a = c.args in
     let l = c.loop-i in
-    (omega (arith, c.decreases), (next-type a.d.now a.k l.p a.left l.i l.invariant.row c.loop-i-test.true).first)
+    (omega (arith, c.decreases), (next-type a.d.now a.k l.p a.left l._i l.invariant.row c.loop-i-test.true).first)
 
 pub common_row-size_at-p-requires : goal.common_row-size_at-p-requires
 common_row-size_at-p-requires t c =
     let a = c.args in
     let l = c.loop-i in
-    header-room a.d.now l.p (next-type a.d.now a.k l.p a.left l.i l.invariant.row c.loop-i-test.true).first.here
-
-pub common_row-overflow_add-p : goal.common_row-overflow_add-p
-common_row-overflow_add-p t c =
-    let a = c.args in
-    let l = c.loop-i in
-    let turn = next-type a.d.now a.k l.p a.left l.i l.invariant.row c.loop-i-test.true in
-    omega (arith, c.size_at-p.ensures.eq, turn.within, turn.rest.small)
-
-pub common_row-overflow_add-i : goal.common_row-overflow_add-i
-common_row-overflow_add-i t c = omega (arith, c.loop-i-test.true)
-
-pub common_row-loop-i-smaller : goal.common_row-loop-i-smaller
-common_row-loop-i-smaller t c = omega (arith, c.loop-i-test.true)
+    header-room a.d.now l.p (next-type a.d.now a.k l.p a.left l._i l.invariant.row c.loop-i-test.true).first.here
 
 pub common_row-loop-i-preserved : goal.common_row-loop-i-preserved
 common_row-loop-i-preserved t c =
     let a = c.args in
     let l = c.loop-i in
     rw c.size_at-p.ensures.eq
-    (common-next a.d.now a.start a.k a.before a.left l.p l.w l.i l.invariant c.loop-i-test.true _ c.common_width-w.ensures)
+    (common-next a.d.now a.start a.k a.before a.left l.p l.w l._i l.invariant c.loop-i-test.true _ c.common_width-w.ensures)
 
 pub common_row-returns : goal.common_row-returns
 common_row-returns t c =
     let a = c.args in
     let l = c.loop-i in
-    common-end a.d.now a.start a.k a.before a.left l.p l.w l.i l.invariant c.loop-i-test.false
+    common-end a.d.now a.start a.k a.before a.left l.p l.w l._i l.invariant c.loop-i-test.false
 
 pub common_width-code_at-code-requires : goal.common_width-code_at-code-requires
 common_width-code_at-code-requires t c = let a = c.args in header-room a.d.now a.p c.requires.here
-
-pub common_width-number_width-requires : goal.common_width-number_width-requires
-common_width-number_width-requires t c = c.width-w.ensures
 
 pub common_width-returns-then-w-ne0 : goal.common_width-returns-then-w-ne0
 common_width-returns-then-w-ne0 t c =
     let a = c.args in
     let numbers = numbers-scalar a.d.now a.p c.requires.here _ c.code_at-code.ensures (omega (arith, c.if-w-ne0.true, c.width-w.ensures)) in
     c.joined_width.ensures ∙ ap (joined_width a.before) c.number_width.ensures ∙ common-scalar a.before _ ∙ ap (common_width a.before) (sym numbers)
-
-pub common_width-inside_of-inside-requires : goal.common_width-inside_of-inside-requires
-common_width-inside_of-inside-requires t c = c.requires.here
 
 pub common_width-overflow_sub-left : goal.common_width-overflow_sub-left
 common_width-overflow_sub-left t c =

@@ -7,7 +7,7 @@ use Rattle.descriptor.specs.inner.Steps.{is_compound}
 use Rattle.descriptor.proofs.Bodies.{header-room}
 use Rattle.flattened.proofs.Cases.{compound-inside, row_inside}
 use Rattle.flattened.proofs.Types.{type-deep}
-use Rattle.columns.proofs.Numbers.{numbers-scalar, numbers-members, numbers-other, scalar-spread, scalar-columns, spread-numbers, columns-numbers, no-columns, next-type, columns-begin, columns-here, columns-next, columns-end}
+use Rattle.columns.proofs.Numbers.{numbers-scalar, numbers-members, numbers-other, scalar-spread, scalar-columns, spread-numbers, columns-numbers, no-columns, next-type, columns-here, columns-next, columns-end}
 use Rattle.columns.proofs.even.+turn_columns_turn_columns_row.Goals as goal
 
 pub turn_columns-code_at-code-requires : goal.turn_columns-code_at-code-requires
@@ -31,9 +31,6 @@ turn_columns-returns-then-w-ne0 t c =
     let a = c.args in
     let numbers = numbers-scalar a.d.now a.p c.requires.type_stands.here _ c.code_at-code.ensures (omega (arith, c.if-w-ne0.true, c.width-w.ensures)) in
     scalar-columns _ _ _ c.width-w.ensures numbers a.s.now a.out.now _ a.at a.step a.n c.turn_scalar_column.ensures
-
-pub turn_columns-inside_of-inside-requires : goal.turn_columns-inside_of-inside-requires
-turn_columns-inside_of-inside-requires t c = c.requires.type_stands.here
 
 pub turn_columns-overflow_sub-left : goal.turn_columns-overflow_sub-left
 turn_columns-overflow_sub-left t c =
@@ -63,48 +60,27 @@ turn_columns-returns t c =
     let numbers = numbers-other a.d.now a.p c.requires.type_stands.here (omega (arith, c.if-w-ne0.false, wide)) simple in
     no-columns _ numbers a.s.now a.out.now a.at a.step a.n
 
-pub turn_columns_row-loop-i-init : goal.turn_columns_row-loop-i-init
-turn_columns_row-loop-i-init t c =
-    let a = c.args in
-    columns-begin a.d.now a.start a.k a.left a.s.now a.out.now a.from a.step a.n c.requires.row_stands c.requires.spread
-
 pub turn_columns_row-turn_columns-at-requires : goal.turn_columns_row-turn_columns-at-requires
 turn_columns_row-turn_columns-at-requires t c =
     let a = c.args in
     let l = c.loop-i in
-    (omega (arith, c.decreases), ((next-type a.d.now a.k l.p a.left l.i l.invariant.row c.loop-i-test.true).first, columns-here a.d.now a.start a.k a.left a.s.now a.out.now a.from a.step a.n l.out l.p l.at l.i l.invariant c.loop-i-test.true))
+    (omega (arith, c.decreases), ((next-type a.d.now a.k l.p a.left l._i l.invariant.row c.loop-i-test.true).first, columns-here a.d.now a.start a.k a.left a.s.now a.out.now a.from a.step a.n l.out l.p l.at l._i l.invariant c.loop-i-test.true))
 
 pub turn_columns_row-size_at-p-requires : goal.turn_columns_row-size_at-p-requires
 turn_columns_row-size_at-p-requires t c =
     let a = c.args in
     let l = c.loop-i in
-    header-room a.d.now l.p (next-type a.d.now a.k l.p a.left l.i l.invariant.row c.loop-i-test.true).first.here
-
-pub turn_columns_row-overflow_add-p : goal.turn_columns_row-overflow_add-p
-turn_columns_row-overflow_add-p t c =
-    let a = c.args in
-    let l = c.loop-i in
-    let turn = next-type a.d.now a.k l.p a.left l.i l.invariant.row c.loop-i-test.true in
-    omega (arith, c.size_at-p.ensures.eq, turn.within, turn.rest.small)
-
-pub turn_columns_row-overflow_add-i : goal.turn_columns_row-overflow_add-i
-turn_columns_row-overflow_add-i t c = omega (arith, c.loop-i-test.true)
-
-pub turn_columns_row-loop-i-smaller : goal.turn_columns_row-loop-i-smaller
-turn_columns_row-loop-i-smaller t c = omega (arith, c.loop-i-test.true)
+    header-room a.d.now l.p (next-type a.d.now a.k l.p a.left l._i l.invariant.row c.loop-i-test.true).first.here
 
 pub turn_columns_row-loop-i-preserved : goal.turn_columns_row-loop-i-preserved
 turn_columns_row-loop-i-preserved t c =
     let a = c.args in
     let l = c.loop-i in
     rw c.size_at-p.ensures.eq
-    (columns-next a.d.now a.start a.k a.left a.s.now a.out.now a.from a.step a.n l.out l.p l.at l.i l.invariant c.loop-i-test.true _ _ c.turn_columns-at.ensures)
-
-pub turn_columns_row-shape_of-out : goal.turn_columns_row-shape_of-out
-turn_columns_row-shape_of-out t c = c.loop-i.invariant.long
+    (columns-next a.d.now a.start a.k a.left a.s.now a.out.now a.from a.step a.n l.out l.p l.at l._i l.invariant c.loop-i-test.true _ _ c.turn_columns-at.ensures)
 
 pub turn_columns_row-returns : goal.turn_columns_row-returns
 turn_columns_row-returns t c =
     let a = c.args in
     let l = c.loop-i in
-    columns-end a.d.now a.start a.k a.left a.s.now a.out.now a.from a.step a.n l.out l.p l.at l.i l.invariant c.loop-i-test.false
+    columns-end a.d.now a.start a.k a.left a.s.now a.out.now a.from a.step a.n l.out l.p l.at l._i l.invariant c.loop-i-test.false

@@ -3,45 +3,19 @@ use Prim.Native.Nat.{◌/◌}
 use native.Mathlib.Omega.{arith}
 use lib.ListN.{length}
 use Rattle.flattened.specs.inner.Order.{order_of}
-use Rattle.elements.proofs.Maxima.{apart-here, apart_more, each-low, low-more}
+use Rattle.elements.proofs.Maxima.{apart_more, each-low, low-more}
 use Rattle.elements.proofs.largest.low_within.Goals as goal
-
-pub largest-requires : goal.largest-requires
-largest-requires c = c.requires
 
 pub returns-then-largest-limit : goal.returns-then-largest-limit
 returns-then-largest-limit c =
     let a = c.args in
     (omega arith, each-low a.limit (order_of a.o) a.s.now a.w a.step a.at a.n (omega (arith, c.largest.ensures, c.if-largest-limit.true)))
 
-pub loop-span-init : goal.loop-span-init
-loop-span-init c = (omega arith, λ i h. absurd (omega arith))
-
-pub overflow_mul-count : goal.overflow_mul-count
-overflow_mul-count c =
-    let a = c.args in
-    let l = c.loop-span in
-    let room = apart-here a.w a.step a.at (length a.s.now) l.count a.n (omega (arith, l.invariant.0, c.loop-span-test.true)) c.requires.apart in
-    record { fits = omega (arith, room) }
-
-pub overflow_add-at : goal.overflow_add-at
-overflow_add-at c =
-    let a = c.args in
-    let l = c.loop-span in
-    let room = apart-here a.w a.step a.at (length a.s.now) l.count a.n (omega (arith, l.invariant.0, c.loop-span-test.true)) c.requires.apart in
-    record { fits = omega (arith, room) }
-
 pub largest-requires-in-loop-span : goal.largest-requires-in-loop-span
 largest-requires-in-loop-span c =
     let a = c.args in
     let l = c.loop-span in
     record { narrow = c.requires.narrow; apart = apart_more a.w a.step a.at (length a.s.now) l.count (l.span / 2) a.n (omega (arith, l.invariant.0)) c.requires.apart }
-
-pub overflow_sub-span : goal.overflow_sub-span
-overflow_sub-span c = omega arith
-
-pub loop-span-smaller-then-largest-limit-2 : goal.loop-span-smaller-then-largest-limit-2
-loop-span-smaller-then-largest-limit-2 c = omega (arith, c.loop-span-test.true)
 
 pub loop-span-preserved-then-largest-limit-2 : goal.loop-span-preserved-then-largest-limit-2
 loop-span-preserved-then-largest-limit-2 c =
@@ -51,14 +25,3 @@ loop-span-preserved-then-largest-limit-2 c =
       low-more a.limit (order_of a.o) a.s.now a.w a.step a.at l.count (l.span / 2) l.invariant.1
           (each-low a.limit (order_of a.o) a.s.now a.w a.step _ (l.span / 2) (omega (arith, c.largest-in-loop-span.ensures, c.if-largest-limit-2.true))),
     )
-
-pub loop-span-smaller : goal.loop-span-smaller
-loop-span-smaller c = omega (arith, c.loop-span-test.true)
-
-pub loop-span-preserved : goal.loop-span-preserved
-loop-span-preserved c =
-    let l = c.loop-span in
-    (omega (arith, l.invariant.0), l.invariant.1)
-
-pub returns : goal.returns
-returns c = (omega (arith, c.loop-span.invariant.0), c.loop-span.invariant.1)

@@ -22,8 +22,8 @@ overflow_add-at c =
     let next = skip-to a.s.now a.from.at (4 * a.dims) _ (sym c.in-Some.is ∙ c.skip.ensures) in
     omega (arith, next.fits)
 
-pub number_4-size-requires : goal.number_4-size-requires
-number_4-size-requires c =
+pub read-size-requires : goal.read-size-requires
+read-size-requires c =
     let a = c.args in
     let next = skip-to a.s.now a.from.at (4 * a.dims) _ (sym c.in-Some.is ∙ c.skip.ensures) in
     omega (arith, next.fits)
@@ -32,7 +32,7 @@ pub returns-then-size-ge-LENGTH_LIMIT : goal.returns-then-size-ge-LENGTH_LIMIT
 returns-then-size-ge-LENGTH_LIMIT c =
     let a = c.args in
     let next = skip-to a.s.now a.from.at (4 * a.dims) _ (sym c.in-Some.is ∙ c.skip.ensures) in
-    rw c.at-then-size-ge-LENGTH_LIMIT.ensures (sizes-over (order_of a.o) a.s.now a.dims a.from.at c.loop-i.count c.loop-i.i c.loop-i.invariant c.loop-i-test.true next.fits (omega (arith, c.number_4-size.ensures)))
+    rw c.at-then-size-ge-LENGTH_LIMIT.ensures (sizes-over (order_of a.o) a.s.now a.dims a.from.at c.loop-i.count c.loop-i.i c.loop-i.invariant c.loop-i-test.true next.fits (omega (arith, c.read-size.ensures)))
 
 pub capped-count-requires : goal.capped-count-requires
 capped-count-requires c = (omega (arith, c.loop-i.invariant.small), omega arith)
@@ -41,8 +41,8 @@ pub loop-i-preserved : goal.loop-i-preserved
 loop-i-preserved c =
     let a = c.args in
     let l = c.loop-i in
-    sizes-next (order_of a.o) a.s.now a.dims a.from.at l.count l.i l.invariant c.loop-i-test.true (omega (arith, c.number_4-size.ensures)) _
-    (c.capped-count.ensures ∙ ap (λ (k : ℕ). min (l.count * k) element_cap) c.number_4-size.ensures)
+    sizes-next (order_of a.o) a.s.now a.dims a.from.at l.count l.i l.invariant c.loop-i-test.true (omega (arith, c.read-size.ensures)) _
+    (c.capped-count.ensures ∙ ap (λ (k : ℕ). min (l.count * k) element_cap) c.read-size.ensures)
 
 pub returns : goal.returns
 returns c =

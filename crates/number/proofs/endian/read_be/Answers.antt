@@ -1,31 +1,33 @@
--- The answers to the goals of `read_be`.
-use mathlib.Core.Path.{◌≡◌, refl}
+use mathlib.Core.Path.{refl, ◌∙◌}
+use Prim.Native.Nat.{◌+◌, ◌<◌}
 use native.Mathlib.Omega.{arith}
-use borrow.Author.Rules.{rules}
+use lib.ListN.{length-take}
 use Rattle.number.specs.Endian.{be}
-use Rattle.number.proofs.Reading.{byte_more, byte_fits, be-more}
+use Rattle.number.proofs.Reading.{byte_more, byte_fits, part-byte, be-more}
 use Rattle.number.proofs.endian.read_be.Goals as goal
 
-pub loop-i-init : goal.loop-i-init
+pub loop-byte-init : goal.loop-byte-init
 unfolding be
-loop-i-init c = (search rules, record { eq = refl; below = search rules })
+loop-byte-init c = record { eq = refl; below = omega arith }
 
 pub overflow_mul-v : goal.overflow_mul-v
 overflow_mul-v c =
-    let l = c.loop-i in
-    omega (arith, byte_fits l.i {b = 0} (omega arith) l.invariant.1.below (omega arith))
+    let more = simp length-take at c.loop-byte-test.true in
+    omega (arith, byte_fits c.loop-byte.byte-index {b = 0} (omega arith) c.loop-byte.invariant.below (omega arith))
 
 pub overflow_add-v : goal.overflow_add-v
 overflow_add-v c =
-    let l = c.loop-i in
-    omega (arith, byte_fits l.i (omega arith) l.invariant.1.below c.wide.ensures.below)
+    let a = c.args in
+    let i = c.loop-byte.byte-index in
+    let more = simp length-take at c.loop-byte-test.true in
+    let read = c.from.ensures ∙ part-byte a.s.now a.at a.n i c.loop-byte-test.true in
+    let b : c.from.result < 256 = omega (arith, c.type_inv.s (a.at + i)) in
+    omega (arith, byte_fits i (omega arith) c.loop-byte.invariant.below b)
 
-pub loop-i-preserved : goal.loop-i-preserved
-loop-i-preserved c =
-    let l = c.loop-i in
-    (search rules, record { eq = rw be-more (omega arith); below = byte_more l.i l.invariant.1.below c.wide.ensures.below })
-
-pub returns : goal.returns
-returns c =
-    let e : c.loop-i.i ≡ c.args.n = omega arith in
-    rw e at c.loop-i.invariant.1
+pub loop-byte-preserved : goal.loop-byte-preserved
+loop-byte-preserved c =
+    let a = c.args in
+    let i = c.loop-byte.byte-index in
+    let read = c.from.ensures ∙ part-byte a.s.now a.at a.n i c.loop-byte-test.true in
+    let b : c.from.result < 256 = omega (arith, c.type_inv.s (a.at + i)) in
+    record { eq = rw be-more (omega arith); below = byte_more i c.loop-byte.invariant.below b }

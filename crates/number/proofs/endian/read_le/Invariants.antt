@@ -1,11 +1,8 @@
 -- `read_le` meets its contract. The invariant: the bytes past the first `left` are read.
-use Prim.Native.Nat.{◌+◌, ◌-◌, ◌^◌, ◌≤◌}
+use Prim.Native.Nat.{◌+◌, ◌-◌, ◌^◌}
 use Rattle.number.specs.Endian.{le}
 use Rattle.number.specs.inner.Post.{Bounded}
 use Rattle.number.proofs.endian.read_le.Given as goal
 
 abbrev pub invariant-loop-left : goal.invariant-loop-left
-invariant-loop-left l = (l.left ≤ l.n) × Bounded l.v (le l.s (l.at + l.left) (l.n - l.left)) (256 ^ (l.n - l.left))
-
-abbrev pub decreases-loop-left : goal.decreases-loop-left
-decreases-loop-left l = l.left
+invariant-loop-left l = Bounded l.v (le l.s (l.at + l.left) (l.n - l.left)) (256 ^ (l.n - l.left))

@@ -5,12 +5,12 @@ use Rattle.number.proofs.Pattern.{up_to_infinity, above-infinity, no_nan}
 use Rattle.number.proofs.float.double_of.Goals as goal
 
 pub float_from_bits-result : goal.float_from_bits-result
-float_from_bits-result c = no_nan binary64 _ (up_to_infinity binary64 _ c.if-bits-le9218868437227405312.true)
+float_from_bits-result c = no_nan binary64 _ (up_to_infinity binary64 _ c.if-bits-le-DOUBLE_INFINITY.true)
 
-pub returns-then-bits-le9218868437227405312 : goal.returns-then-bits-le9218868437227405312
+pub returns-then-bits-le-DOUBLE_INFINITY : goal.returns-then-bits-le-DOUBLE_INFINITY
 unfolding double_of
-returns-then-bits-le9218868437227405312 c = rw (up_to_infinity binary64 _ c.if-bits-le9218868437227405312.true)
+returns-then-bits-le-DOUBLE_INFINITY c = rw (up_to_infinity binary64 _ c.if-bits-le-DOUBLE_INFINITY.true)
 
-pub returns : goal.returns
+pub returns-else-bits-le-DOUBLE_INFINITY : goal.returns-else-bits-le-DOUBLE_INFINITY
 unfolding double_of
-returns c = rw (above-infinity binary64 _ c.if-bits-le9218868437227405312.false)
+returns-else-bits-le-DOUBLE_INFINITY c = rw (above-infinity binary64 _ c.if-bits-le-DOUBLE_INFINITY.false)

@@ -5,12 +5,12 @@ use Rattle.number.proofs.Pattern.{up_to_infinity, above-infinity, no_nan}
 use Rattle.number.proofs.float.single_of.Goals as goal
 
 pub float_from_bits-result : goal.float_from_bits-result
-float_from_bits-result c = no_nan binary32 _ (up_to_infinity binary32 _ c.if-bits-le2139095040.true)
+float_from_bits-result c = no_nan binary32 _ (up_to_infinity binary32 _ c.if-bits-le-SINGLE_INFINITY.true)
 
-pub returns-then-bits-le2139095040 : goal.returns-then-bits-le2139095040
+pub returns-then-bits-le-SINGLE_INFINITY : goal.returns-then-bits-le-SINGLE_INFINITY
 unfolding single_of
-returns-then-bits-le2139095040 c = rw (up_to_infinity binary32 _ c.if-bits-le2139095040.true)
+returns-then-bits-le-SINGLE_INFINITY c = rw (up_to_infinity binary32 _ c.if-bits-le-SINGLE_INFINITY.true)
 
-pub returns : goal.returns
+pub returns-else-bits-le-SINGLE_INFINITY : goal.returns-else-bits-le-SINGLE_INFINITY
 unfolding single_of
-returns c = rw (above-infinity binary32 _ c.if-bits-le2139095040.false)
+returns-else-bits-le-SINGLE_INFINITY c = rw (above-infinity binary32 _ c.if-bits-le-SINGLE_INFINITY.false)

@@ -27,14 +27,8 @@ overflow_cast-below c =
     let fits : 256 ^ c.args.n ≤ 256 ^ 8 = most (omega arith) in
     search rules
 
-pub overflow_sub-result : goal.overflow_sub-result
-overflow_sub-result c =
-    let a = c.args in
-    let half = c.half_range-half.result in
-    negative_fits (half - 1 - (a.bits - half)) (omega (arith, most {n = a.n} (omega arith)))
-
-pub returns : goal.returns
-returns c =
+pub returns-else-bits-half : goal.returns-else-bits-half
+returns-else-bits-half c =
     let a = c.args in
     let half = c.half_range-half.result in
     let k = half - 1 - (a.bits - half) in

@@ -14,33 +14,33 @@ overflow_add-characters c =
     let text = text-read (order_of a.o) a.s.now a.at c.requires.reads in
     omega (arith, text.fits)
 
-pub number_4-length-requires : goal.number_4-length-requires
-number_4-length-requires c =
+pub read-length-requires : goal.read-length-requires
+read-length-requires c =
     let a = c.args in
     let text = text-read (order_of a.o) a.s.now a.at c.requires.reads in
     omega (arith, text.fits)
 
-pub turn_number_4-requires : goal.turn_number_4-requires
-turn_number_4-requires c =
+pub turn-requires : goal.turn-requires
+turn-requires c =
     let a = c.args in
     let text = text-read (order_of a.o) a.s.now a.at c.requires.reads in
     record { inside = omega (arith, text.fits); room = c.requires.here.room }
 
-pub turn_run_1-requires : goal.turn_run_1-requires
-turn_run_1-requires c =
+pub turn_run_of-requires : goal.turn_run_of-requires
+turn_run_of-requires c =
     let a = c.args in
     let text = text-read (order_of a.o) a.s.now a.at c.requires.reads in
-    record { inside = omega (arith, text.fits, c.number_4-length.ensures); room = omega (arith, c.requires.here.room, c.turn_number_4.auto.out) }
+    record { inside = omega (arith, text.fits, c.read-length.ensures); room = omega (arith, c.requires.here.room, c.turn.auto.out) }
 
 pub overflow_add-result : goal.overflow_add-result
 overflow_add-result c =
     let a = c.args in
     let text = text-read (order_of a.o) a.s.now a.at c.requires.reads in
-    omega (arith, text.fits, c.number_4-length.ensures)
+    omega (arith, text.fits, c.read-length.ensures)
 
 pub returns : goal.returns
 returns c =
     let a = c.args in
     let text = text-read (order_of a.o) a.s.now a.at c.requires.reads in
-    text-turned (order_of a.o) a.s.now a.at text a.out.now _ _ c.number_4-length.ensures
-    (c.turn_run_1.ensures ∙ ap (λ (x : List ℕ). turned_run 1 a.s.now c.number_4-length.result (a.at + 4) x) c.turn_number_4.ensures)
+    text-turned (order_of a.o) a.s.now a.at text a.out.now _ _ c.read-length.ensures
+    (c.turn_run_of.ensures ∙ ap (λ (x : List ℕ). turned_run 1 a.s.now c.read-length.result (a.at + 4) x) c.turn.ensures)

@@ -260,28 +260,28 @@ turn_values-returns-in-Text t c =
     let kind = known _ kinds.Text (kind_of c.code_at-code.result) c.kind_of-k.ensures c.in-Text.is ∙ ap kind_of c.code_at-code.ensures in
     turned_as _ _ a.s.now a.out.now _ _ (walk-texts a.d.now a.p a.left c.requires.type_stands (order_of a.o) a.s.now a.n a.from kind) c.turn_texts.ensures
 
-pub turn_values-even_step-step-requires : goal.turn_values-even_step-step-requires
-turn_values-even_step-step-requires t c = c.requires.type_stands
+pub turn_values-even_step-requires : goal.turn_values-even_step-requires
+turn_values-even_step-requires t c = c.requires.type_stands
 
 pub turn_values-turn_even-requires : goal.turn_values-turn_even-requires
 turn_values-turn_even-requires t c =
     let a = c.args in
-    record { type_stands = c.requires.type_stands; even = (c.even_step-step.ensures.even (omega (arith, c.if-step-ne0.true))); laid = even-laid (type_at a.d.now a.p) c.even_step-step.result (c.even_step-step.ensures.even (omega (arith, c.if-step-ne0.true))) (order_of a.o) a.s.now a.n a.from a.out.now (c.even_step-step.ensures.some (omega (arith, c.if-step-ne0.true))) c.requires.turnable }
+    record { type_stands = c.requires.type_stands; even = c.in-Some.ensures.even; laid = even-laid (type_at a.d.now a.p) c.in-Some.step c.in-Some.ensures.even (order_of a.o) a.s.now a.n a.from a.out.now c.in-Some.ensures.some c.requires.turnable }
 
-pub turn_values-overflow_mul-result-then-step-ne0 : goal.turn_values-overflow_mul-result-then-step-ne0
-turn_values-overflow_mul-result-then-step-ne0 t c =
+pub turn_values-overflow_mul-result-in-Some : goal.turn_values-overflow_mul-result-in-Some
+turn_values-overflow_mul-result-in-Some t c =
     let a = c.args in
-    omega (arith, (even-laid (type_at a.d.now a.p) c.even_step-step.result (c.even_step-step.ensures.even (omega (arith, c.if-step-ne0.true))) (order_of a.o) a.s.now a.n a.from a.out.now (c.even_step-step.ensures.some (omega (arith, c.if-step-ne0.true))) c.requires.turnable).inside)
+    omega (arith, (even-laid (type_at a.d.now a.p) c.in-Some.step c.in-Some.ensures.even (order_of a.o) a.s.now a.n a.from a.out.now c.in-Some.ensures.some c.requires.turnable).inside)
 
-pub turn_values-overflow_add-result-then-step-ne0 : goal.turn_values-overflow_add-result-then-step-ne0
-turn_values-overflow_add-result-then-step-ne0 t c =
+pub turn_values-overflow_add-result-in-Some : goal.turn_values-overflow_add-result-in-Some
+turn_values-overflow_add-result-in-Some t c =
     let a = c.args in
-    omega (arith, (even-laid (type_at a.d.now a.p) c.even_step-step.result (c.even_step-step.ensures.even (omega (arith, c.if-step-ne0.true))) (order_of a.o) a.s.now a.n a.from a.out.now (c.even_step-step.ensures.some (omega (arith, c.if-step-ne0.true))) c.requires.turnable).inside)
+    omega (arith, (even-laid (type_at a.d.now a.p) c.in-Some.step c.in-Some.ensures.even (order_of a.o) a.s.now a.n a.from a.out.now c.in-Some.ensures.some c.requires.turnable).inside)
 
-pub turn_values-returns-then-step-ne0 : goal.turn_values-returns-then-step-ne0
-turn_values-returns-then-step-ne0 t c =
+pub turn_values-returns-in-Some : goal.turn_values-returns-in-Some
+turn_values-returns-in-Some t c =
     let a = c.args in
-    even-done (type_at a.d.now a.p) c.even_step-step.result (c.even_step-step.ensures.even (omega (arith, c.if-step-ne0.true))) (order_of a.o) a.s.now a.n a.from a.out.now _ c.requires.turnable c.turn_even.ensures
+    even-done (type_at a.d.now a.p) c.in-Some.step c.in-Some.ensures.even (order_of a.o) a.s.now a.n a.from a.out.now _ c.requires.turnable c.turn_even.ensures
 
 pub turn_values-inside_of-inside-requires : goal.turn_values-inside_of-inside-requires
 turn_values-inside_of-inside-requires t c = c.requires.type_stands.here
