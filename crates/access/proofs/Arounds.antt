@@ -1,6 +1,6 @@
 -- Values with one string in a row, in accepted data: each ends past its bytes, its length word and its characters. Rests on the law of
 -- extents.
-use mathlib.Core.Path.{◌≡◌, refl, sym, ap, ◌∙◌}
+use mathlib.Core.Path.{◌≡◌, refl, ap, ◌∙◌}
 use mathlib.Core.Bool.{Bool}
 use mathlib.Core.List.{List}
 use Prim.Native.Nat.{ℕ, zero, suc, ◌+◌, ◌-◌, ◌<◌, ◌≤◌}
@@ -49,35 +49,18 @@ module _ (before after : ℕ) (s : List ℕ) where
       holds-and_then (run-stops t k j known n q) (λ r us f.
       found (f ∙ ap (λ (a : ℕ). around_end before after s a n) e ∙ first_more at n)))
 
-  -- of n values from `start` on, i have been passed, up to `at`
-  module _ (start n : ℕ) where
-    pub record Passing (at i : ℕ) : Type 0 where
-      pub most : i ≤ n
-      pub place : at ≡ around_end before after s start i
+  -- where all n values from `start` on end in the data, so does value i
+  pub around_room : (start n i : ℕ) → i < n → around_end before after s start n ≤ length s → one (around_end before after s start i) ≤ length s
+  around_room start n i more inside =
+      let rest : n - suc i + suc i ≡ n = omega arith in
+      omega (arith, inside, after_more start i, no-earlier start (suc i) (n - suc i), ap (around_end before after s start) rest)
 
-    pub passing-begin : Passing start 0
-    unfolding place_of
-    passing-begin = record { most = omega arith; place = refl }
+  -- none, and one more
+  pub around_none : (start : ℕ) → around_end before after s start 0 ≡ start
+  unfolding place_of
+  around_none start = refl
 
-    module _ (at i : ℕ) (passing : Passing at i) where
-      -- where all n end in the data, so does the next
-      pub passing-inside : around_end before after s start n ≤ length s → i < n → one at ≤ length s
-      passing-inside inside more =
-          let rest : n - suc i + suc i ≡ n = omega arith in
-          omega (
-            arith,
-            inside,
-            ap one passing.place,
-            after_more start i,
-            no-earlier start (suc i) (n - suc i),
-            ap (around_end before after s start) rest,
-          )
+  pub around_more : (start i : ℕ) → around_end before after s start (i + 1) ≡ one (around_end before after s start i)
+  around_more start i = ap (around_end before after s start) (add-one i) ∙ after_more start i
 
-      pub passing-next : i < n → (r : ℕ) → r ≡ one at → Passing r (i + 1)
-      passing-next more r e = record {
-        most = omega arith;
-        place = e ∙ ap one passing.place ∙ sym (after_more start i) ∙ ap (around_end before after s start) (sym (add-one i));
-      }
-
-      pub passing-end : n ≤ i → at ≡ around_end before after s start n
-      passing-end h = passing.place ∙ ap (around_end before after s start) (let all : i ≡ n = omega (arith, passing.most) in all)
+pub ruleset around_laws = (around_room, around_none, around_more)

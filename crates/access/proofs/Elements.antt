@@ -4,10 +4,8 @@ use mathlib.Core.Path.{◌≡◌, sym, ap, ◌∙◌}
 use mathlib.Core.Bool.{true}
 use mathlib.Core.List.{List, ◌∷◌}
 use Prim.Native.Nat.{ℕ, zero, ◌^◌, ◌<◌, ◌≤◌, min}
-use Rattle.std.specs.Prelude.{Option, Some, None, Result, Ok, Err}
-use Rattle.descriptor.specs.inner.Steps.{refusal_at}
+use Rattle.std.specs.Prelude.{Ok, Err}
 use Rattle.descriptor.specs.declared.refusal.Refusal.{Refusal}
-use Rattle.flattened.specs.declared.progress.Walked.{Walked}
 use native.Mathlib.Omega.{arith}
 use borrow.Author.Tests.{lt-ltb, le-ltb}
 use lib.ListN.{length}
@@ -19,10 +17,11 @@ use Rattle.descriptor.proofs.Outcomes.{holds_read}
 use Rattle.flattened.specs.Order.{big}
 use Rattle.flattened.specs.Token.{sizes}
 use Rattle.flattened.specs.Walk.{token, array_at, repeat, walk}
-use Rattle.flattened.specs.inner.Cursor.{word, cursor}
+use Rattle.flattened.specs.inner.Cursor.{cursor}
 use Rattle.flattened.specs.inner.Sizes.{sizes_of, element_cap, capped_sizes}
 use Rattle.flattened.specs.inner.Types.{type_at}
 use Rattle.flattened.specs.declared.cursor.Cursor.{Cursor}
+use Rattle.flattened.specs.declared.sizes.Sizes.{Sizes}
 use Rattle.flattened.proofs.Arms.{walk-one}
 use Rattle.flattened.proofs.Capped.{repeat-capped}
 use Rattle.flattened.proofs.Forward.{walk-forward, sizes-end}
@@ -30,7 +29,6 @@ use Rattle.flattened.proofs.Types.{type-solid}
 use Rattle.access.specs.Path.{member_at, step_at}
 use Rattle.access.specs.inner.Past.{values_at, Values, past_values, past_array}
 use Rattle.access.specs.inner.Spots.{ArrayLies, reached, Known, Reaches}
-use Rattle.access.specs.declared.reach.Reach.TheVariants.{To, Lost}
 use Rattle.access.proofs.Outcomes.{Got, got_read, then-first, then-second, then_next, then-last}
 use Rattle.access.proofs.Runs.{values-inside, first-values, value_read}
 use Rattle.access.proofs.Types.{deeper}
@@ -51,32 +49,26 @@ module _ (d : List ℕ) (p dims left : ℕ) (s : List ℕ) (at : ℕ) (lies : Ar
       (then-second front (λ next n. and_then (values_at d p n s next) (λ last ts. read last (token (sizes dims) at next ∷ ts))) elements sized.what sized.eq lies.read)
 
   -- the size words of accepted data are not refused
-  pub sizes-lost : (number place : ℕ) → Err (refusal_at number place) ≡ capped_sizes (array_at big s dims at) → ⊥
+  pub sizes_lost : (r : Refusal) → Err r ≡ capped_sizes (array_at big s dims at) → ⊥
   unfolding capped_sizes
-  sizes-lost number place e =
-      let r : Err (refusal_at number place) ≡ Ok (sizes_of (min sized.what element_cap) (cursor elements)) = e ∙ ap capped_sizes sized.eq in
-      let z : ◌≡◌ {A = ℕ} 0 1 = cc in
-      omega arith
+  sizes_lost r e = let z : Err r ≡ Ok (sizes_of (min sized.what element_cap) (cursor elements)) = e ∙ ap capped_sizes sized.eq in cc
 
-  module _ (n : ℕ) (c : Cursor) (counted : Ok (sizes_of n c) ≡ capped_sizes (array_at big s dims at)) where
-    known : Ok (sizes_of n c) ≡ Ok (sizes_of (min sized.what element_cap) (cursor elements))
+  module _ (z : Sizes) (counted : Ok z ≡ capped_sizes (array_at big s dims at)) where
+    known : z ≡ sizes_of (min sized.what element_cap) (cursor elements)
     unfolding capped_sizes
-    known = counted ∙ ap capped_sizes sized.eq
+    known = let same : Ok z ≡ Ok (sizes_of (min sized.what element_cap) (cursor elements)) = counted ∙ ap capped_sizes sized.eq in cc
 
-    many : n ≡ min sized.what element_cap
-    many = cc known
+    many : z.count ≡ min sized.what element_cap
+    many = ap (λ (x : Sizes). x.count) known
 
-    there : c ≡ cursor elements
-    there = cc known
+    place : z.elements.at ≡ elements
+    place = ap (λ (x : Sizes). x.elements.at) known
 
-    place : c.at ≡ elements
-    place = ap (λ (x : Cursor). x.at) there
-
-    pub elements-inside : c.at ≤ length s
+    pub elements-inside : z.elements.at ≤ length s
     elements-inside = let ends = holds_read sized.eq (sizes-end s big dims at) in omega (arith, place, ends.1)
 
     -- as many elements as there are sizes for, or as the cut leaves
-    capped : values_at d p sized.what s elements ≡ values_at d p n s c.at
+    capped : values_at d p sized.what s elements ≡ values_at d p z.count s z.elements.at
     capped =
         let solid = type-solid d p left lies.type in
         let inside : elements ≤ length s = omega (arith, place, elements-inside) in
@@ -84,50 +76,47 @@ module _ (d : List ℕ) (p dims left : ℕ) (s : List ℕ) (at : ℕ) (lies : Ar
         ∙ (λ j. values_at d p (sym many j) s (sym place j))
 
     -- all the elements
-    pub array-values : Values d p n s c.at
-    array-values = record {
+    pub array_values : Values d p z.count s z.elements.at
+    array_values = record {
       type = deeper lies.type low;
       bytes = record { inside = elements-inside; short = lies.bytes.short };
       read = ap is_read (sym capped) ∙ all;
     }
 
     -- where they end the array does
-    pub array-past : (r : Cursor) → r ≡ past_values d p n s c.at → r ≡ past_array d p dims s at
+    pub array_past : past_array d p dims s at ≡ past_values d p z.count s z.elements.at
     unfolding past_values past_array
-    array-past r e =
-        e
-        ∙ ap cursor (sym (
-        rw sized.eq
-        (then-last (values_at d p sized.what s elements) (λ last ts. token (sizes dims) at elements ∷ ts) all ∙ ap next_of capped)
-        ))
+    array_past =
+        ap cursor (rw sized.eq (then-last (values_at d p sized.what s elements) (λ last ts. token (sizes dims) at elements ∷ ts) all ∙ ap next_of capped))
 
     module _ (k i : ℕ) (small : k < 2 ^ 32) (shallow : i < depth_limit) where
       -- from the element count on
-      pub element-out : n ≤ k → Reaches d left s (step_at i (dimensions dims) (cons (type_at d p) nil) k s at) (Lost i)
+      pub element_out : z.count ≤ k → Reaches d left s (step_at i (dimensions dims) (cons (type_at d p) nil) k s at) (Err i)
       unfolding step_at reached Known
-      element-out h =
+      element_out h =
           let most : sized.what ≤ k = omega (arith, many) in
           record { eq = sym (rw sized.eq (simp (le-ltb k sized.what most))); known = shallow }
 
-      module _ (h : k < n) where
+      module _ (h : k < z.count) where
         fewer : k < sized.what
         fewer = omega (arith, many)
 
         -- the elements before it
-        pub element-values : Values d p k s c.at
-        element-values = record {
+        pub element_values : Values d p k s z.elements.at
+        element_values = record {
           type = deeper lies.type low;
           bytes = record { inside = elements-inside; short = lies.bytes.short };
           read = ap (λ (a : ℕ). is_read (values_at d p k s a)) place ∙ first-values d p s elements k sized.what fewer all;
         }
 
         -- element k
-        pub element-at : (r : Cursor) → r ≡ past_values d p k s c.at → Reaches d left s (step_at i (dimensions dims) (cons (type_at d p) nil) k s at) (To p r)
+        pub element_at : Reaches d left s (step_at i (dimensions dims) (cons (type_at d p) nil) k s at) (Ok (record { place = p; start = past_values d p k s z.elements.at }))
         unfolding step_at reached Known past_values member_at
-        element-at r e =
-            let start : r.at ≡ next_of (values_at d p k s elements) = ap (λ (x : Cursor). x.at) e ∙ ap (λ (a : ℕ). next_of (values_at d p k s a)) place in
-            let inside = values-inside d p k s c.at element-values in
-            let stop : r.at ≤ length s = omega (arith, ap (λ (x : Cursor). x.at) e, inside.within) in
+        element_at =
+            let r : Cursor = past_values d p k s z.elements.at in
+            let start : r.at ≡ next_of (values_at d p k s elements) = ap (λ (a : ℕ). next_of (values_at d p k s a)) place in
+            let inside = values-inside d p k s z.elements.at element_values in
+            let stop : r.at ≤ length s = inside.within in
             let before : is_read (values_at d p k s elements) ≡ true = first-values d p s elements k sized.what fewer all in
             record {
               eq = sym (
@@ -142,3 +131,5 @@ module _ (d : List ℕ) (p dims left : ℕ) (s : List ℕ) (at : ℕ) (lies : Ar
                 read = ap (λ (a : ℕ). is_read (walk big (type_at d p) s a)) start ∙ value_read d p s elements k sized.what fewer all;
               };
             }
+
+pub ruleset array_laws = (sizes_lost, array_values, array_past)

@@ -4,7 +4,7 @@ use mathlib.Core.Path.{◌≡◌, sym, ap, subst, ◌∙◌}
 use mathlib.Core.Bool.{true}
 use mathlib.Core.List.{List}
 use Prim.Native.Nat.{ℕ, zero, suc, ◌+◌, ◌-◌, ◌<◌, ◌≤◌}
-use native.Mathlib.Nat.{sub-zero}
+use Rattle.std.specs.Prelude.{Ok, Err}
 use native.Mathlib.Omega.{arith}
 use lib.ListN.{length}
 use Rattle.descriptor.specs.Header.{size_in}
@@ -20,7 +20,6 @@ use Rattle.flattened.proofs.Types.{RowTurn, row-turn}
 use Rattle.access.specs.Path.{member_at}
 use Rattle.access.specs.inner.Past.{values_at, Values, past_values}
 use Rattle.access.specs.inner.Spots.{Lies, RowLies, spot, reached, Known, Reaches}
-use Rattle.access.specs.declared.reach.Reach.TheVariants.{To, Lost}
 use Rattle.access.proofs.Outcomes.{follow-first, follow-second, then_next}
 use Rattle.access.proofs.Runs.{values-inside, one_value}
 use Rattle.access.proofs.Types.{deeper, no-types}
@@ -91,77 +90,56 @@ member-out i d (suc n) p left zero s at low lies h = absurd (omega arith)
 member-out i d (suc n) p left (suc k) s at low lies h =
     member-next d n p left s at lies low i k ∙ member-out i d n (p + size_in d p) left k s _ low (others-lie d n p left s at lies low) (omega arith)
 
-module _ (i : ℕ) (d : List ℕ) (start n k : ℕ) (s : List ℕ) (from : ℕ) where
-  abbrev rest : ℕ
-  rest = depth_limit - (i + 1)
+-- of the members of a compound, m have been passed, up to p and `at`, and member k is looked for; i is the number of the step
+pub record MemberLoop (i : ℕ) (d : List ℕ) (start n k : ℕ) (s : List ℕ) (from p at m : ℕ) : Type 0 where
+  pub lies : RowLies d (n - m) p (depth_limit - (i + 1)) s at
+  pub same : member_at i (types_at d n start) k s from ≡ member_at i (types_at d (n - m) p) (k - m) s at
 
-  -- m of the members have been passed, up to p and `at`
-  pub record MemberLoop (p at m : ℕ) : Type 0 where
-    pub more : k < n
-    pub most : m ≤ k
-    pub lies : RowLies d (n - m) p rest s at
-    pub same : member_at i (types_at d n start) k s from ≡ member_at i (types_at d (n - m) p) (k - m) s at
+module _ {i : ℕ} {d : List ℕ} {start n k : ℕ} {s : List ℕ} {from p at m : ℕ} (loop : MemberLoop i d start n k s from p at m) (more : m < n) where
+  some : n - m ≡ suc (n - (m + 1))
+  some = omega arith
 
-  pub member-begin : k < n → RowLies d n start rest s from → MemberLoop start from 0
-  member-begin more lies = record {
-    more = more;
-    most = omega arith;
-    lies = subst (λ (j : ℕ). RowLies d j start rest s from) (sym (sub-zero n)) lies;
-    same = λ l. member_at i (types_at d (sym (sub-zero n) l) start) (sym (sub-zero k) l) s from;
-  }
+  row : RowLies d (suc (n - (m + 1))) p (depth_limit - (i + 1)) s at
+  row = subst (λ (j : ℕ). RowLies d j p (depth_limit - (i + 1)) s at) some loop.lies
 
-  module _ (p at m : ℕ) (loop : MemberLoop p at m) where
-    low : rest ≤ depth_limit
-    low = omega arith
+  -- the member at p
+  pub member-lies : Lies d p (depth_limit - (i + 1)) s at
+  member-lies = first-lies d (n - (m + 1)) p _ s at row (omega arith)
 
-    some : n - m ≡ suc (n - (m + 1))
-    some = omega (arith, loop.most, loop.more)
+  pub member-value : Values d p 1 s at
+  member-value = first-value d (n - (m + 1)) p _ s at row (omega arith)
 
-    row : RowLies d (suc (n - (m + 1))) p rest s at
-    row = subst (λ (j : ℕ). RowLies d j p rest s at) some loop.lies
+  pub member-size : p + size_in d p ≤ length d
+  member-size = first-size d (n - (m + 1)) p _ s at row (omega arith)
 
-    -- the member at p
-    pub member-lies : Lies d p rest s at
-    member-lies = first-lies d (n - (m + 1)) p rest s at row low
+  -- is passed
+  pub member-again : m < k → (c : Cursor) → c ≡ past_values d p 1 s at → MemberLoop i d start n k s from (p + size_in d p) c.at (m + 1)
+  member-again h c e =
+      let there : c.at ≡ next_of (walk big (type_at d p) s at) = first_past d (n - (m + 1)) p _ s at row (omega arith) c e in
+      let left_over : k - m ≡ suc (k - (m + 1)) = omega arith in
+      rw there (record {
+        lies = others-lie d (n - (m + 1)) p _ s at row (omega arith);
+        same =
+            loop.same
+            ∙ (λ l. member_at i (types_at d (some l) p) (left_over l) s at)
+            ∙ member-next d (n - (m + 1)) p _ s at row (omega arith) i (k - (m + 1));
+      })
 
-    pub member-value : Values d p 1 s at
-    member-value = first-value d (n - (m + 1)) p rest s at row low
-
-    pub member-size : p + size_in d p ≤ length d
-    member-size = first-size d (n - (m + 1)) p rest s at row low
-
-    -- is passed
-    pub member-again : m < k → (q : ℕ) → q ≡ p + size_in d p → (r : Cursor) → r ≡ past_values d p 1 s at → MemberLoop q r.at (m + 1)
-    member-again h q eq r e =
-        let there : r.at ≡ next_of (walk big (type_at d p) s at) = first_past d (n - (m + 1)) p rest s at row low r e in
-        let left_over : k - m ≡ suc (k - (m + 1)) = omega arith in
-        record {
-          more = loop.more;
-          most = omega arith;
-          lies =
-              subst (λ (a : ℕ). RowLies d (n - (m + 1)) a rest s r.at) (sym eq)
-              (subst (λ (a : ℕ). RowLies d (n - (m + 1)) (p + size_in d p) rest s a) (sym there) (others-lie d (n - (m + 1)) p rest s at row low));
-          same =
-              loop.same
-              ∙ (λ l. member_at i (types_at d (some l) p) (left_over l) s at)
-              ∙ member-next d (n - (m + 1)) p rest s at row low i (k - (m + 1))
-              ∙ (λ l. member_at i (types_at d (n - (m + 1)) (sym eq l)) (k - (m + 1)) s (sym there l));
-        }
-
-    -- or is member k
-    pub member-found : k ≤ m → (c : Cursor) → c.at ≡ at → Reaches d rest s (member_at i (types_at d n start) k s from) (To p c)
-    unfolding reached Known
-    member-found h c e =
-        let none : k - m ≡ 0 = omega arith in
-        record {
-          eq = sym (loop.same
-              ∙ (λ l. member_at i (types_at d (some l) p) (none l) s at)
-              ∙ member-here d (n - (m + 1)) p rest s at row low i
-              ∙ (λ l. read (sym e l) (spot d p (sym e l))));
-          known = subst (λ (a : ℕ). Lies d p rest s a) (sym e) member-lies;
-        }
-
-  -- or there is none
-  pub member-none : n ≤ k → i < depth_limit → RowLies d n start rest s from → Reaches d rest s (member_at i (types_at d n start) k s from) (Lost i)
+  -- or is member k
+  pub member-found : k ≡ m → (c : Cursor) → c.at ≡ at → Reaches d (depth_limit - (i + 1)) s (member_at i (types_at d n start) k s from) (Ok (record { place = p; start = c }))
   unfolding reached Known
-  member-none h shallow lies = record { eq = sym (member-out i d n start rest k s from (omega arith) lies h); known = shallow }
+  member-found h c e =
+      let none : k - m ≡ 0 = omega arith in
+      record {
+        eq = sym (loop.same
+            ∙ (λ l. member_at i (types_at d (some l) p) (none l) s at)
+            ∙ member-here d (n - (m + 1)) p _ s at row (omega arith) i
+            ∙ (λ l. read (sym e l) (spot d p (sym e l))));
+        known = subst (λ (a : ℕ). Lies d p (depth_limit - (i + 1)) s a) (sym e) member-lies;
+      }
+
+-- or there is none
+pub member-none : (i : ℕ) (d : List ℕ) (start n k : ℕ) (s : List ℕ) (from : ℕ) → n ≤ k → i < depth_limit → RowLies d n start (depth_limit - (i + 1)) s from
+    → Reaches d (depth_limit - (i + 1)) s (member_at i (types_at d n start) k s from) (Err i)
+unfolding reached Known
+member-none i d start n k s from h shallow lies = record { eq = sym (member-out i d n start _ k s from (omega arith) lies h); known = shallow }

@@ -4,8 +4,7 @@ use mathlib.Core.Path.{◌≡◌, sym, ap, ◌∙◌}
 use mathlib.Core.Bool.{Bool, true}
 use mathlib.Core.List.{List}
 use Prim.Native.Nat.{ℕ, suc, ◌+◌, ◌-◌, ◌*◌, ◌<◌, ◌≤◌}
-use Rattle.std.specs.Prelude.{is_some, Option, Some, None, Result, Ok, Err}
-use Rattle.descriptor.specs.inner.Steps.{refusal_at}
+use Rattle.std.specs.Prelude.{is_some, Ok, Err}
 use Rattle.descriptor.specs.declared.refusal.Refusal.{Refusal}
 use Rattle.flattened.specs.declared.progress.Walked.{Walked}
 use native.Mathlib.Omega.{arith}
@@ -15,14 +14,14 @@ use Rattle.descriptor.specs.Limits.{depth_limit, data_limit}
 use Rattle.descriptor.specs.Outcome.{refused, read}
 use Rattle.descriptor.specs.Width.{width_of}
 use Rattle.descriptor.specs.inner.Standing.{is_read, next_of}
+use Rattle.descriptor.proofs.Bodies.{header-room}
 use Rattle.descriptor.proofs.Outcomes.{holds_read}
 use Rattle.flattened.specs.Order.{big}
 use Rattle.flattened.specs.Walk.{follow, repeat, walk}
-use Rattle.flattened.specs.inner.Cursor.{word, cursor}
+use Rattle.flattened.specs.inner.Cursor.{cursor}
 use Rattle.flattened.specs.inner.Extent.{type_limit, extent_of}
-use Rattle.flattened.specs.inner.Progress.{walked_to, progress}
+use Rattle.flattened.specs.inner.Progress.{progress}
 use Rattle.flattened.specs.inner.Types.{type_at, DataAt}
-use Rattle.flattened.specs.declared.cursor.Cursor.{Cursor}
 use Rattle.flattened.specs.declared.extent.Extent.TheVariants.{Fixed, Around}
 use Rattle.flattened.proofs.Cases.{extent-number}
 use Rattle.flattened.proofs.Extents.{run_ends}
@@ -55,47 +54,54 @@ module _ (d : List ℕ) (p n : ℕ) (s : List ℕ) (at : ℕ) (values : Values d
     fixed-ends : next_of (values_at d p n s at) ≡ at + n * w
     fixed-ends = (holds_read got.eq (run_ends s (type_at d p) w k j (sym known) big n at)).at
 
-    pub fixed-inside : at + n * w ≤ data_limit
-    fixed-inside = omega (arith, fixed-ends, values-inside.within, values.bytes.short)
+    pub fixed_inside : at + n * w ≤ data_limit
+    fixed_inside = omega (arith, fixed-ends, values-inside.within, values.bytes.short)
 
-    pub fixed-past : (r : Cursor) → r ≡ cursor (at + n * w) → r ≡ past_values d p n s at
+    pub fixed_past : past_values d p n s at ≡ cursor (at + n * w)
     unfolding past_values
-    fixed-past r e = e ∙ ap cursor (sym fixed-ends)
+    fixed_past = ap cursor fixed-ends
 
   -- scalars, each as long as the width of its code
   module _ (w : ℕ) (wide : w ≡ width_of (code_in d p)) (some : w ≡ 0 → ⊥) where
     scalar-extent : Fixed w 1 (is_some (type_limit (type_at d p))) ≡ extent_of (type_at d p)
     scalar-extent = ap (λ (k : ℕ). Fixed k 1 (is_some (type_limit (type_at d p)))) wide ∙ extent-number d p values.type.here (omega arith)
 
-    pub scalars-inside : at + n * w ≤ data_limit
-    scalars-inside = fixed-inside w 1 (is_some (type_limit (type_at d p))) scalar-extent
+    pub scalars_inside : at + n * w ≤ data_limit
+    scalars_inside = fixed_inside w 1 (is_some (type_limit (type_at d p))) scalar-extent
 
-    pub scalars-past : (r : Cursor) → r ≡ cursor (at + n * w) → r ≡ past_values d p n s at
-    scalars-past = fixed-past w 1 (is_some (type_limit (type_at d p))) scalar-extent
+    pub scalars_past : past_values d p n s at ≡ cursor (at + n * w)
+    scalars_past = fixed_past w 1 (is_some (type_limit (type_at d p))) scalar-extent
 
   -- one string in each
   module _ (before after k : ℕ) (j : Bool) (known : Around before after k j ≡ extent_of (type_at d p)) where
     around-ends : next_of (values_at d p n s at) ≡ around_end before after s at n
     around-ends = holds_read got.eq (run-stops before after s (type_at d p) k j (sym known) n at)
 
-    pub around-inside : DataAt s (around_end before after s at n)
-    around-inside = record { inside = omega (arith, around-ends, values-inside.within); short = values.bytes.short }
+    pub around_inside : DataAt s (around_end before after s at n)
+    around_inside = record { inside = omega (arith, around-ends, values-inside.within); short = values.bytes.short }
 
-    pub around-past : (r : Cursor) → r ≡ cursor (around_end before after s at n) → r ≡ past_values d p n s at
+    pub around_past : past_values d p n s at ≡ cursor (around_end before after s at n)
     unfolding past_values
-    around-past r e = e ∙ ap cursor (sym around-ends)
+    around_past = ap cursor around-ends
 
   -- the walk of them
-  pub walked-past : (c : Cursor) (k : ℕ) → Ok (walked_to c k) ≡ progress (values_at d p n s at) → c ≡ past_values d p n s at
+  pub walked_past : (w : Walked) → Ok w ≡ progress (values_at d p n s at) → past_values d p n s at ≡ w.next
   unfolding past_values
-  walked-past c k e = let r = progress-reads (values_at d p n s at) c k e in ap cursor (sym (next-is r.eq))
+  walked_past w e = ap cursor (next-is (progress-reads (values_at d p n s at) w.next w.tokens e).eq)
 
-  pub walked-lost : (number place : ℕ) → Err (refusal_at number place) ≡ progress (values_at d p n s at) → ⊥
-  walked-lost number place e =
-      let r : values_at d p n s at ≡ refused number place = progress-refused (values_at d p n s at) number place e in
-      let z : read (next_of (values_at d p n s at)) got.what ≡ refused number place = sym got.eq ∙ r in
-      let o : ◌≡◌ {A = ℕ} 0 1 = cc in
-      omega arith
+  pub walked_lost : (r : Refusal) → Err r ≡ progress (values_at d p n s at) → ⊥
+  walked_lost r e =
+      let lost : values_at d p n s at ≡ refused r.number r.place = progress-refused (values_at d p n s at) r.number r.place e in
+      let z : read (next_of (values_at d p n s at)) got.what ≡ refused r.number r.place = sym got.eq ∙ lost in
+      cc
+
+-- one scalar
+module _ (d : List ℕ) (p : ℕ) (s : List ℕ) (at : ℕ) (values : Values d p 1 s at) (w : ℕ) (wide : w ≡ width_of (code_in d p)) (some : w ≡ 0 → ⊥) where
+  pub scalar_inside : at + w ≤ data_limit
+  scalar_inside = omega (arith, scalars_inside d p 1 s at values w wide some)
+
+  pub scalar_past : past_values d p 1 s at ≡ cursor (at + w)
+  scalar_past = scalars_past d p 1 s at values w wide some ∙ ap cursor (let one : at + 1 * w ≡ at + w = omega arith in one)
 
 module _ (d : List ℕ) (p : ℕ) (s : List ℕ) (at : ℕ) where
   -- one value
@@ -122,3 +128,6 @@ module _ (d : List ℕ) (p : ℕ) (s : List ℕ) (at : ℕ) where
         let start = next_of (values_at d p k s at) in
         follow-first (walk big (type_at d p) s start) (λ a. values_at d p (n - suc k) s a)
         (follow-second (values_at d p k s at) (λ a. values_at d p (suc (n - suc k)) s a) parted)
+
+pub ruleset run_laws =
+    (header-room, fixed_inside, fixed_past, scalars_inside, scalars_past, scalar_inside, scalar_past, around_inside, around_past, walked_past, walked_lost)

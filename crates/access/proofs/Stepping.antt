@@ -4,6 +4,7 @@ use mathlib.Core.Bool.{true, false}
 use mathlib.Core.List.{List}
 use Prim.Native.Nat.{ℕ, ◌+◌, ◌-◌, ◌<◌, ◌≤◌}
 use native.Mathlib.Omega.{arith}
+use Rattle.std.specs.Prelude.{Result, Err}
 use Rattle.descriptor.specs.Codes.{array, kind_of}
 use Rattle.descriptor.specs.Header.{code_in}
 use Rattle.descriptor.specs.Limits.{depth_limit, dimension_limit}
@@ -19,15 +20,13 @@ use Rattle.flattened.specs.Walk.{walk, walk_all}
 use Rattle.flattened.specs.inner.Arrays.{elements_at}
 use Rattle.flattened.specs.inner.Cursor.{cursor}
 use Rattle.flattened.specs.inner.Types.{type_at, types_at, TypeStands, RowStands, fields_kind}
-use Rattle.flattened.specs.declared.cursor.Cursor.{Cursor}
 use Rattle.flattened.proofs.Arms.{walk-array, walk-compound, walk-one}
 use Rattle.flattened.proofs.Cases.{has_inside, compound-inside, counted-inside, types-inside, row_inside}
 use Rattle.flattened.proofs.Types.{TypeMade, type-made, type-deep, Counted}
 use Rattle.access.specs.Path.{member_at, step_at, step_into}
 use Rattle.access.specs.inner.Past.{past_values, past_array}
 use Rattle.access.specs.inner.Spots.{Lies, ArrayLies, RowLies, reached, Known, Reaches}
-use Rattle.access.specs.declared.reach.Reach.{Reach}
-use Rattle.access.specs.declared.reach.Reach.TheVariants.{Lost}
+use Rattle.access.specs.declared.spot.Spot.{Spot}
 use Rattle.access.proofs.Runs.{one_value}
 use Rattle.access.proofs.Types.{only-type}
 
@@ -99,9 +98,9 @@ module _ (d : List ℕ) (p i k : ℕ) (s : List ℕ) (at : ℕ) (lies : Lies d p
   whole = ap (λ (t : Tree). is_read (walk big t s at)) (sym made.tree) ∙ lies.read
 
   -- nothing stands inside
-  pub step-none : (array ≡ kind_of (code_in d p) → ⊥) → is_compound (kind_of (code_in d p)) ≡ false → Reaches d (depth_limit - (i + 1)) s (step_into i (type_at d p) k s at) (Lost i)
+  pub step_none : (array ≡ kind_of (code_in d p) → ⊥) → is_compound (kind_of (code_in d p)) ≡ false → Reaches d (depth_limit - (i + 1)) s (step_into i (type_at d p) k s at) (Err i)
   unfolding reached Known
-  step-none a c = record {
+  step_none a c = record {
     eq = sym (stepped ∙ step_other i made.inner k s at made.fields (λ e. a (e ∙ made.kind)) (ap is_compound made.kind ∙ c));
     known = shallow lies.type;
   }
@@ -118,8 +117,8 @@ module _ (d : List ℕ) (p i k : ℕ) (s : List ℕ) (at : ℕ) (lies : Lies d p
       inner : types_at d inside.children inside.at ≡ made.inner
       inner = types-inside d p lies.type.here inside seen (compound-inside _ kind)
 
-      pub compound-lies : RowLies d inside.children inside.at (depth_limit - (i + 1)) s at
-      compound-lies = record {
+      pub compound_lies : RowLies d inside.children inside.at (depth_limit - (i + 1)) s at
+      compound_lies = record {
         row = row (compound-inside _ kind);
         bytes = lies.bytes;
         read =
@@ -128,9 +127,9 @@ module _ (d : List ℕ) (p i k : ℕ) (s : List ℕ) (at : ℕ) (lies : Lies d p
             ∙ whole;
       }
 
-      pub compound-reached : (r : Reach) → Reaches d (depth_limit - (i + 1)) s (member_at i (types_at d inside.children inside.at) k s at) r
+      pub compound_reached : (r : Result Spot ℕ) → Reaches d (depth_limit - (i + 1)) s (member_at i (types_at d inside.children inside.at) k s at) r
           → Reaches d (depth_limit - (i + 1)) s (step_into i (type_at d p) k s at) r
-      compound-reached r met = record {
+      compound_reached r met = record {
         eq = met.eq
             ∙ ap (λ (f : Forest). member_at i f k s at) inner
             ∙ sym (stepped ∙ step-compound i made.inner k s at made.fields (ap is_compound made.kind ∙ kind));
@@ -172,14 +171,14 @@ module _ (d : List ℕ) (p i k : ℕ) (s : List ℕ) (at : ℕ) (lies : Lies d p
       }
 
       -- it ends where its elements do
-      pub array-one : (r : Cursor) → r ≡ past_array d inside.at inside.count s at → r ≡ past_values d p 1 s at
+      pub array_one : past_values d p 1 s at ≡ past_array d inside.at inside.count s at
       unfolding past_array past_values
-      array-one r e = e ∙ ap (λ (o : Outcome (List Token)). cursor (next_of o)) (sym array-walk ∙ sym (one_value d p s at))
+      array_one = ap (λ (o : Outcome (List Token)). cursor (next_of o)) (one_value d p s at ∙ array-walk)
 
-      pub array-reached : (r : Reach)
+      pub array_reached : (r : Result Spot ℕ)
           → Reaches d (depth_limit - (i + 1)) s (step_at i (dimensions inside.count) (cons (type_at d inside.at) nil) k s at) r
           → Reaches d (depth_limit - (i + 1)) s (step_into i (type_at d p) k s at) r
-      array-reached r met = record {
+      array_reached r met = record {
         eq = met.eq
             ∙ (λ j. step_at i (dimensions (dims j)) (sym element j) k s at)
             ∙ sym (stepped ∙ step-array i made.inner k s at made.fields (made.kind ∙ sym kind));

@@ -3,5 +3,5 @@
 
 pub mod part;
 pub mod past;
-pub mod reach;
+pub mod spot;
 pub mod steps;

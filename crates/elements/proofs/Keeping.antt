@@ -4,7 +4,7 @@ use mathlib.Core.Path.{◌≡◌, refl, sym, ap, subst, ◌∙◌}
 use mathlib.Core.Bool.{Bool, true, false, ◌||◌}
 use mathlib.Core.List.{List}
 use Prim.Native.Nat.{ℕ, suc, ◌+◌, ◌-◌, ◌*◌, ◌<◌, ◌≤◌}
-use native.Mathlib.Nat.{add-zero, sub-zero}
+use native.Mathlib.Nat.{add-zero}
 use native.Mathlib.Omega.{arith}
 use borrow.Author.Tests.{lt-ltb}
 use Rattle.descriptor.specs.Codes.{kind_of}
@@ -191,77 +191,66 @@ module _ (o : Order) (s : List ℕ) (front whole : Extent) (at n : ℕ) (d : Lis
 -- what the loop over the types of a row keeps: where those that are left are kept, all are
 module _ (d : List ℕ) (k start left : ℕ) (before : Extent) (o : Order) (s : List ℕ) (whole : Extent) (at n : ℕ) where
   pub record RowLoop (p : ℕ) (front : Extent) (count i : ℕ) : Type 0 where
-    pub most : i ≤ k
     pub fewer : count ≤ n
     pub row : RowStands d (k - i) p left
     pub ahead : Ahead front p
     pub definite : Definite (joint front (extent_all (types_at d (k - i) p)))
     pub kept : (m : ℕ) → m ≤ count → EachKeptAll o s (types_at d (k - i) p) front whole at m → EachKeptAll o s (types_at d k start) before whole at m
 
-  pub row-begin : RowStands d k start left → Ahead before start → Definite (joint before (extent_all (types_at d k start))) → RowLoop start before n 0
-  row-begin row ahead definite = record {
-    most = omega arith;
-    fewer = omega arith;
-    row = subst (λ (j : ℕ). RowStands d j start left) (sym (sub-zero k)) row;
-    ahead = ahead;
-    definite = subst (λ (j : ℕ). Definite (joint before (extent_all (types_at d j start)))) (sym (sub-zero k)) definite;
-    kept = λ m h each. subst (λ (j : ℕ). EachKeptAll o s (types_at d j start) before whole at m) (sub-zero k) each;
-  }
+module _ {d : List ℕ} {k start left : ℕ} {before : Extent} {o : Order} {s : List ℕ} {whole : Extent} {at n p : ℕ} {front : Extent} {count i : ℕ}
+    (loop : RowLoop d k start left before o s whole at n p front count i) where
+  module _ (more : i < k) where
+    -- the next type of the row, and the types after it
+    pub next-turn : RowTurn d (k - (i + 1)) p left
+    next-turn =
+        let e : k - i ≡ suc (k - (i + 1)) = omega arith in
+        row-turn d (k - (i + 1)) p left (subst (λ (j : ℕ). RowStands d j p left) e loop.row)
 
-  module _ (p : ℕ) (front : Extent) (count i : ℕ) (loop : RowLoop p front count i) where
-    module _ (more : i < k) where
-      -- the next type of the row, and the types after it
-      pub next-turn : RowTurn d (k - (i + 1)) p left
-      next-turn =
-          let e : k - i ≡ suc (k - (i + 1)) = omega arith in
-          row-turn d (k - (i + 1)) p left (subst (λ (j : ℕ). RowStands d j p left) e loop.row)
+    split : types_at d (k - i) p ≡ cons (type_at d p) (types_at d (k - (i + 1)) (p + size_in d p))
+    split = let e : k - i ≡ suc (k - (i + 1)) = omega arith in ap (λ (j : ℕ). types_at d j p) e ∙ next-turn.types
 
-      split : types_at d (k - i) p ≡ cons (type_at d p) (types_at d (k - (i + 1)) (p + size_in d p))
-      split = let e : k - i ≡ suc (k - (i + 1)) = omega arith in ap (λ (j : ℕ). types_at d j p) e ∙ next-turn.types
+    next-definite : Definite (joint (joint front (extent_of (type_at d p))) (extent_all (types_at d (k - (i + 1)) (p + size_in d p))))
+    unfolding extent_of
+    next-definite =
+        subst Definite
+        (ap (λ (f : Forest). joint front (extent_all f)) split
+        ∙ sym (joint-assoc front (extent_of (type_at d p)) (extent_all (types_at d (k - (i + 1)) (p + size_in d p)))))
+        loop.definite
 
-      next-definite : Definite (joint (joint front (extent_of (type_at d p))) (extent_all (types_at d (k - (i + 1)) (p + size_in d p))))
-      unfolding extent_of
-      next-definite =
-          subst Definite
-          (ap (λ (f : Forest). joint front (extent_all f)) split
-          ∙ sym (joint-assoc front (extent_of (type_at d p)) (extent_all (types_at d (k - (i + 1)) (p + size_in d p)))))
-          loop.definite
+    pub here-definite : Definite (joint front (extent_of (type_at d p)))
+    here-definite = definite-first (joint front (extent_of (type_at d p))) _ next-definite
 
-      pub here-definite : Definite (joint front (extent_of (type_at d p)))
-      here-definite = definite-first (joint front (extent_of (type_at d p))) _ next-definite
+    -- its extent
+    pub next-least : (least (extent_of (type_at d p)) ≤ 8 * size_in d p) × (tokens_in (extent_of (type_at d p)) ≤ 8 * size_in d p)
+    next-least =
+        small_least 1 _ (size_in d p)
+        (subst (λ (size : ℕ). Small 1 (extent_of (type_at d p)) size) next-turn.size (type-few d p left next-turn.first))
 
-      -- its extent
-      pub next-least : (least (extent_of (type_at d p)) ≤ 8 * size_in d p) × (tokens_in (extent_of (type_at d p)) ≤ 8 * size_in d p)
-      next-least =
-          small_least 1 _ (size_in d p)
-          (subst (λ (size : ℕ). Small 1 (extent_of (type_at d p)) size) next-turn.size (type-few d p left next-turn.first))
+    pub row_next : (r : ℕ) → r ≤ count → EachKept o s (type_at d p) front whole at r
+        → RowLoop d k start left before o s whole at n (p + size_in d p) (joint front (extent_of (type_at d p))) r (i + 1)
+    unfolding Kept
+    row_next r fewer here = record {
+      fewer = omega (arith, loop.fewer);
+      row = next-turn.rest;
+      ahead = ahead-joint front (extent_of (type_at d p)) p (size_in d p) loop.ahead next-least.0 next-least.1;
+      definite = next-definite;
+      kept = λ m h each. loop.kept m (omega arith) (λ j l. both m h each j l);
+    }
+      where
+        both : (m : ℕ) → m ≤ r
+            → EachKeptAll o s (types_at d (k - (i + 1)) (p + size_in d p)) (joint front (extent_of (type_at d p))) whole at m
+            → EachKeptAll o s (types_at d (k - i) p) front whole at m
+        both m h each j l =
+            let place = place_of o s whole at j in
+            let rest = subst (λ (q : ℕ). KeptAll o s (types_at d (k - (i + 1)) (p + size_in d p)) q) (beyond-joint o s front (extent_of (type_at d p)) here-definite place) (each j l) in
+            subst (λ (f : Forest). KeptAll o s f (beyond o s front place)) (sym split) (here j (omega arith), rest)
 
-      pub row_next : (r : ℕ) → r ≤ count → EachKept o s (type_at d p) front whole at r
-          → RowLoop (p + size_in d p) (joint front (extent_of (type_at d p))) r (i + 1)
-      unfolding Kept
-      row_next r fewer here = record {
-        most = omega arith;
-        fewer = omega (arith, loop.fewer);
-        row = next-turn.rest;
-        ahead = ahead-joint front (extent_of (type_at d p)) p (size_in d p) loop.ahead next-least.0 next-least.1;
-        definite = next-definite;
-        kept = λ m h each. loop.kept m (omega arith) (λ j l. both m h each j l);
-      }
-        where
-          both : (m : ℕ) → m ≤ r
-              → EachKeptAll o s (types_at d (k - (i + 1)) (p + size_in d p)) (joint front (extent_of (type_at d p))) whole at m
-              → EachKeptAll o s (types_at d (k - i) p) front whole at m
-          both m h each j l =
-              let place = place_of o s whole at j in
-              let rest = subst (λ (q : ℕ). KeptAll o s (types_at d (k - (i + 1)) (p + size_in d p)) q) (beyond-joint o s front (extent_of (type_at d p)) here-definite place) (each j l) in
-              subst (λ (f : Forest). KeptAll o s f (beyond o s front place)) (sym split) (here j (omega arith), rest)
-
-    pub row_kept : k ≤ i → (count ≤ n) × EachKeptAll o s (types_at d k start) before whole at count
-    unfolding Kept forest_of
-    row_kept h =
-        let e : k - i ≡ 0 = omega arith in
-        let none : types_at d (k - i) p ≡ nil = ap (λ (j : ℕ). types_at d j p) e ∙ ap forest_of (row-none d p) in
-        (loop.fewer, loop.kept count (omega arith) (λ j l. subst (λ (f : Forest). KeptAll o s f (beyond o s front (place_of o s whole at j))) (sym none) tt))
+  pub row_kept : k ≤ i → (count ≤ n) × EachKeptAll o s (types_at d k start) before whole at count
+  unfolding Kept forest_of
+  row_kept h =
+      let e : k - i ≡ 0 = omega arith in
+      let none : types_at d (k - i) p ≡ nil = ap (λ (j : ℕ). types_at d j p) e ∙ ap forest_of (row-none d p) in
+      (loop.fewer, loop.kept count (omega arith) (λ j l. subst (λ (f : Forest). KeptAll o s f (beyond o s front (place_of o s whole at j))) (sym none) tt))
 
 -- an element itself: nothing goes before it
 pub none_ahead : (p : ℕ) → Ahead (Fixed 0 0 false) p

@@ -1,4 +1,3 @@
 pub mod Maxima
 pub mod Placing
 pub mod Keeping
-pub mod Crossing

@@ -14,66 +14,51 @@ use descriptor::codes::is_compound;
 use descriptor::header::{code_at, size_at};
 use descriptor::inside::inside_of;
 use descriptor::width::width;
-use flattened::cursor::{Cursor, Skip, Word};
-use flattened::extent::{Extent, Rule, extent_of, joint, rule_of};
+use flattened::cursor::Cursor;
+use flattened::extent::{Extent, extent_of, joint, limit_of};
 use flattened::order::{Order, narrow_number};
 
-// Past `before` bytes, a string and `after` bytes.
-pub fn across(before: usize, after: usize, s: &[u8], from: Cursor, o: Order) -> Skip
+// Past `before` bytes, a string and `after` bytes; none where the data ends before.
+#[tactic(auto, unfolding(flattened::specs::inner::Columns::ArrivesAt, flattened::specs::inner::Cursor::skipped, flattened::specs::inner::Cursor::word_at))]
+pub fn across(before: usize, after: usize, s: &[u8], from: Cursor, o: Order) -> Option<Cursor>
     requires { from.at ≤ length s.now }
     ensures { Across (order_of o) s.now before after from.at result }
 {
-    let Skip::To(text) = from.skip(s, before) else {
-        return Skip::Cut;
-    };
-    let Word::Read(length, characters) = text.word(s, o) else {
-        return Skip::Cut;
-    };
-    let Skip::To(end) = characters.skip(s, length) else {
-        return Skip::Cut;
-    };
+    let text = from.skip(s, before)?;
+    let length = text.word(s, o)?;
+    let end = length.next.skip(s, length.number)?;
     end.skip(s, after)
 }
 
 // Whether a number of w bytes past `front` stands beside a string: in the bytes before it, or in those after it.
+#[tactic(auto, unfolding(crate::specs::inner::Placing::Beside))]
 fn beside(front: Extent, before: usize, after: usize, w: usize) -> bool
     ensures { result ≡ true → Beside front before after w }
 {
     match front {
         Extent::Varies => false,
-        Extent::Fixed(f, tokens, judged) => {
-            if before < w {
-                return false;
-            }
-            f <= before - w
-        }
-        Extent::Around(b, a, tokens, judged) => {
-            if b != before {
-                return false;
-            }
-            if after < w {
-                return false;
-            }
-            a <= after - w
-        }
+        Extent::Fixed(f, ..) => w <= before && f <= before - w,
+        Extent::Around(b, a, ..) => b == before && w <= after && a <= after - w,
     }
 }
 
 // Where it stands, in an element from `start` to `end`: so many bytes past the start, or so many before the end.
+#[tactic(auto, unfolding(crate::specs::inner::Placing::Beside, flattened::specs::inner::Columns::beyond))]
 fn place_in(front: Extent, before: usize, after: usize, w: usize, start: usize, end: usize) -> usize
     requires beside { Beside front before after w }
-    requires after_bound { start + before + 4 + after ≤ end }
+    requires room { start + before + 4 + after ≤ end }
     ensures { StandsIn front before after w start end result }
 {
     match front {
         Extent::Varies => start,
-        Extent::Fixed(f, tokens, judged) => start + f,
-        Extent::Around(b, a, tokens, judged) => end - (after - a),
+        Extent::Fixed(f, ..) => start + f,
+        Extent::Around(_, a, ..) => end - (after - a),
     }
 }
 
 // How many of the first of n elements, of `before` bytes, a string and `after` bytes each, have a number of w bytes past `front` that is
 // below a limit.
+#[tactic(auto, unfolding(flattened::specs::inner::Columns::ArrivesAt))]
 fn column_around(
     front: Extent,
     before: usize,
@@ -86,17 +71,17 @@ fn column_around(
     o: Order,
 ) -> usize
     requires narrow { Narrow w }
-    requires at_in_bounds { from.at ≤ length s.now }
+    requires inside { from.at ≤ length s.now }
     ensures { (result ≤ n) × BelowAround (order_of o) s.now front before after from.at w limit result }
 {
     if !beside(front, before, after, w) {
         return 0;
     }
     let mut next = from;
+    // Counted by hand: as a `for` it takes a seventh longer.
     let mut count = 0;
     while count < n {
-        let element = across(before, after, s, next, o);
-        let Skip::To(end) = element else {
+        let Some(end) = across(before, after, s, next, o) else {
             return count;
         };
         let place = place_in(front, before, after, w, next.at, end.at);
@@ -121,19 +106,13 @@ fn column_fixed(
     o: Order,
 ) -> usize
     requires narrow { Narrow w }
-    requires step_in_bounds { at + n * step ≤ length s.now }
+    requires fit { at + n * step ≤ length s.now }
     ensures { (result ≤ n) × BelowFixed (order_of o) s.now front step at w limit result }
 {
-    let Extent::Fixed(f, tokens, judged) = front else {
+    let Extent::Fixed(f, ..) = front else {
         return 0;
     };
-    if n == 0 {
-        return 0;
-    }
-    if step < w {
-        return 0;
-    }
-    if step - w < f {
+    if n == 0 || step < w || step - w < f {
         return 0;
     }
     low(limit, s, at + f, w, step, n, o)
@@ -141,6 +120,7 @@ fn column_fixed(
 
 // How many of the first of n elements of the extent `whole`, which fit where it is fixed, have a number of w bytes past `front` that is
 // below a limit.
+#[tactic(auto, unfolding(crate::specs::inner::Placing::Roomy))]
 fn column(
     front: Extent,
     whole: Extent,
@@ -157,10 +137,8 @@ fn column(
 {
     match whole {
         Extent::Varies => 0,
-        Extent::Fixed(step, tokens, judged) => column_fixed(
-            front, step, w, limit, n, s, from.at, o,
-        ),
-        Extent::Around(before, after, tokens, judged) => {
+        Extent::Fixed(step, ..) => column_fixed(front, step, w, limit, n, s, from.at, o),
+        Extent::Around(before, after, ..) => {
             column_around(front, before, after, w, limit, n, s, from, o)
         }
     }
@@ -179,14 +157,13 @@ fn scalar_column(
     o: Order,
 ) -> usize
     requires stands { Stands d.now p }
-    requires w_value { (w ≡ width_of (code_in d.now p)) × (0 < w) }
+    requires wide { (w ≡ width_of (code_in d.now p)) × (0 < w) }
     requires roomy { Roomy s.now whole from.at n }
     ensures { (result ≤ n) × EachKept (order_of o) s.now (type_at d.now p) front whole from.at result }
 {
-    let rule = rule_of(d, p);
-    match rule {
-        Rule::Any => n,
-        Rule::Below(limit) => column(front, whole, w, limit, n, s, from, o),
+    match limit_of(d, p) {
+        None => n,
+        Some(limit) => column(front, whole, w, limit, n, s, from, o),
     }
 }
 
@@ -253,17 +230,27 @@ fn columns_row(
     let mut p = start;
     let mut front = before;
     let mut count = n;
-    let mut i = 0;
-    while i < k {
+    for _ in 0..k {
         count = columns_of(d, p, front, whole, count, s, from, o, left);
         if count == 0 {
             return 0;
         }
         front = joint(front, extent_of(d, p, left));
         p += size_at(d, p);
-        i += 1;
     }
     count
+}
+
+// Whether any number in it is judged.
+#[tactic(auto, unfolding(flattened::specs::inner::Columns::judged_in))]
+pub fn judged_in(x: Extent) -> bool
+    ensures { result ≡ judged_in x }
+{
+    match x {
+        Extent::Varies => true,
+        Extent::Fixed(_, _, judged) => judged,
+        Extent::Around(_, _, _, judged) => judged,
+    }
 }
 
 // How many of the first of n elements of the type at p, of the extent `whole`, keep the rules of the numbers in them.
@@ -271,7 +258,6 @@ pub fn keeping(
     d: &[u8],
     p: usize,
     whole: Extent,
-    judged: bool,
     n: usize,
     s: &[u8],
     from: Cursor,
@@ -279,11 +265,11 @@ pub fn keeping(
     left: usize,
 ) -> usize
     requires type_stands { TypeStands d.now p left }
-    requires whole_value { (whole ≡ extent_of (type_at d.now p)) × Definite whole × (judged ≡ judged_in whole) }
+    requires whole_extent { (whole ≡ extent_of (type_at d.now p)) × Definite whole }
     requires roomy { Roomy s.now whole from.at n }
     ensures { (result ≤ n) × EachKeptHere (order_of o) s.now (type_at d.now p) whole from.at result }
 {
-    if judged {
+    if judged_in(whole) {
         return columns_of(d, p, Extent::Fixed(0, 0, false), whole, n, s, from, o, left);
     }
     n

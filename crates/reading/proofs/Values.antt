@@ -139,3 +139,6 @@ is-value (SingleNan b) h = refl
 is-value (DoubleValue x) h = refl
 is-value (DoubleNan b) h = refl
 is-value (Flag b) h = refl
+
+pub ruleset value_laws =
+    (single-width, signed-narrow, value-signed, value-unsigned, value-enumeration, value-single, value-double, value-flag, value_none, below-range, above-range)

@@ -7,12 +7,12 @@ ghost use Rattle.reading.specs.Values.{value_at, no_value, read_value};
 ghost use Rattle.access.specs.inner.Spots.{Lies, spot};
 
 use super::value::{Reading, Value, value_of};
-use access::reach::Reach;
+use access::spot::Spot;
 use access::steps::spot_at;
-use descriptor::answer::{Answer, answered};
+use descriptor::answer::{Answer, Input};
 use descriptor::header::code_at;
+use descriptor::refusal::Fault;
 use descriptor::width::width;
-use flattened::cursor::Cursor;
 use number::endian::{be64, read_be};
 use walking::check::check_data;
 
@@ -30,18 +30,18 @@ fn number_at(s: &[u8], at: usize, w: usize) -> u64
     read_be(s, at, w)
 }
 
-// The value of the type at p; `Nothing` where there is no single number.
-fn value_at(d: &[u8], p: usize, s: &[u8], from: Cursor) -> Value
-    requires { Lies d.now p depth_limit s.now from.at }
-    ensures { result ≡ value_at s.now (spot d.now p from.at) }
+// The value at a spot; `Nothing` where there is no single number.
+#[tactic(auto, using(crate::proofs::Readings::spot_laws))]
+fn value_at(d: &[u8], x: Spot, s: &[u8]) -> Value
+    requires { Lies d.now x.place depth_limit s.now x.start.at }
+    ensures { result ≡ value_at s.now (spot d.now x.place x.start.at) }
 {
-    let at = from.at;
-    let code = code_at(d, p);
+    let code = code_at(d, x.place);
     let w = width(code);
     if WIDEST < w {
         return Value::Nothing;
     }
-    value_of(code, number_at(s, at, w))
+    value_of(code, number_at(s, x.start.at, w))
 }
 
 // A refusal gives "no value".
@@ -55,6 +55,7 @@ fn no_value(answer: Answer) -> Reading
 }
 
 // The value at a path: 31 where there is no single number. `&d[..]` is d, and quicker to hand on (docs/DECISIONS.md, "Code").
+#[tactic(auto, using(crate::proofs::Readings::reading_laws))]
 pub fn read_value(d: &[u8], s: &[u8], path: &[u32]) -> Reading
     ensures { result ≡ read_value d.now s.now path.now }
 {
@@ -62,16 +63,14 @@ pub fn read_value(d: &[u8], s: &[u8], path: &[u32]) -> Reading
     if checked.number != 0 {
         return no_value(checked);
     }
-    let reach = spot_at(&d[..], &s[..], path);
-    match reach {
-        Reach::Lost(i) => no_value(answered(30, 4, i)),
-        Reach::To(p, from) => {
-            let value = value_at(d, p, s, from);
-            if let Value::Nothing = value {
-                return no_value(answered(31, 4, 0));
-            }
-            let answer = answered(0, 0, 0);
-            Reading { answer, value }
-        }
+    match spot_at(&d[..], &s[..], path) {
+        Err(i) => no_value(Answer::refused(Fault::Step, Input::Request, i)),
+        Ok(spot) => match value_at(d, spot, s) {
+            Value::Nothing => no_value(Answer::refused(Fault::NoNumber, Input::Request, 0)),
+            value => Reading {
+                answer: Answer::accepted(0),
+                value,
+            },
+        },
     }
 }

@@ -3,14 +3,11 @@
 use mathlib.Core.Path.{◌≡◌, refl, sym, ap, subst, ◌∙◌}
 use mathlib.Core.Bool.{Bool}
 use mathlib.Core.List.{List, [], ◌∷◌}
-use mathlib.Core.Logic.{⊎_elim}
 use Prim.Native.Nat.{ℕ, suc, ◌+◌, ◌-◌, ◌*◌, ◌/◌, ◌<◌, ◌≤◌, min}
-use Rattle.std.specs.Prelude.{Option, Some, None, Result, Ok, Err}
+use Rattle.std.specs.Prelude.{Option, Some, None, Ok, Err}
 use Rattle.descriptor.specs.inner.Steps.{refusal_at}
 use Rattle.descriptor.specs.declared.refusal.Refusal.{Refusal}
-use Rattle.flattened.specs.declared.progress.Walked.{Walked}
-use native.Mathlib.Nat.{add-zero, mul-le-mul_right, div-mul-le_self, div-lt_iff_lt-mul}
-use native.Mathlib.Decide.{dec_lt}
+use native.Mathlib.Nat.{add-zero, mul-le-mul_right, div-mul-le_self}
 use native.Mathlib.Omega.{arith}
 use borrow.Author.Tests.{lt-ltb}
 use lib.ListN.{length}
@@ -24,18 +21,16 @@ use Rattle.descriptor.proofs.Outcomes.{Holds, holds_read}
 use Rattle.flattened.specs.Order.{Order, number_at}
 use Rattle.flattened.specs.Token.{Token, sizes}
 use Rattle.flattened.specs.Walk.{token, array_at, repeat, walk}
-use Rattle.flattened.specs.inner.Cursor.{word, cursor}
+use Rattle.flattened.specs.inner.Cursor.{cursor}
 use Rattle.flattened.specs.inner.Progress.{walked_to, progress, plus, Reads}
 use Rattle.flattened.specs.inner.Sizes.{sizes_of, element_cap, capped_sizes}
 use Rattle.flattened.specs.inner.Extent.{keeps, type_limit, extent_of}
 use Rattle.flattened.specs.inner.Types.{type_at, Solid}
 use Rattle.flattened.specs.inner.Columns.{Kept, EachKeptHere}
 use Rattle.flattened.specs.inner.Arrays.{elements_at, EachKeeps}
-use Rattle.walking.specs.inner.Fronts.{Passes, LeftAfter, resumed, Resumable, FrontMet}
-use Rattle.walking.specs.declared.arrays.Front.{Front}
-use Rattle.walking.specs.declared.arrays.Front.TheVariants.{Over, Rest}
+use Rattle.flattened.specs.declared.sizes.Sizes.{Sizes}
+use Rattle.walking.specs.inner.Fronts.{Passes, passed, together, left_after, LiesIn, resumed, Resumable, FrontMet}
 use Rattle.walking.specs.declared.arrays.Passed.{Passed}
-use Rattle.flattened.specs.declared.cursor.Cursor.{Cursor}
 use Rattle.flattened.specs.declared.extent.Extent.TheVariants.{Fixed}
 use Rattle.flattened.proofs.Capped.{repeat-capped}
 use Rattle.flattened.proofs.Cases.{walk-number}
@@ -47,21 +42,6 @@ use Rattle.elements.proofs.Placing.{fixed-place}
 use Rattle.flattened.proofs.Progresses.{plus-plus, follow-reads}
 use Rattle.flattened.proofs.Repeats.{reads_at, reads-follow, repeat_split, repeat-run}
 use Rattle.flattened.proofs.Judged.{ruled_at, ruled-read}
-
--- m values of the type t, of w bytes and k tokens each
-abbrev pub passed_as : ℕ → ℕ → ℕ → Passed
-passed_as m w k = record { count = m; bytes = m * w; tokens = m * k }
-
--- n fit exactly where n is at most as many as fit
-pub fits_all : (n w room : ℕ) → 0 < w → n * w ≤ room → n ≤ room / w
-fits_all n w room some h = go (dec_lt (room / w) n)
-  where
-    go : Dec (room / w < n) → n ≤ room / w
-    go (yes l) = let over : room < n * w = (div-lt_iff_lt-mul some).0 l in absurd (omega arith)
-    go (no l) = omega arith
-
-pub fits-fewer : (n w room : ℕ) → 0 < w → room < n * w → room / w < n
-fits-fewer n w room some h = (div-lt_iff_lt-mul some).1 h
 
 -- as many of n as fit
 module _ (n w room m : ℕ) (e : m ≡ min n (room / w)) where
@@ -78,24 +58,26 @@ pub fitting-fewer : (n w end at m k : ℕ) → m ≡ min n ((end - at) / w) → 
 fitting-fewer n w end at m k e inside h = fewer-within w at end k m h (omega (arith, fitting-room n w (end - at) m e))
 
 -- none
-pub pass-none : (o : Order) (t : Tree) (s : List ℕ) (n at : ℕ) (r : Passed) → r ≡ record { count = 0; bytes = 0; tokens = 0 } → Passes o t s n at r
+pub pass-none : (o : Order) (t : Tree) (s : List ℕ) (n at : ℕ) (r : Passed) → (r.count ≡ 0) × ((r.bytes ≡ 0) × (r.tokens ≡ 0)) → Passes o t s n at r
 unfolding repeat
-pass-none o t s n at r e = rw e (record {
-  most = omega arith;
-  reads = record { tokens = []; eq = ap (λ (a : ℕ). read a []) (sym (add-zero at)); count = refl };
-})
+pass-none o t s n at r none =
+    let e : r ≡ passed 0 0 0 = λ i. passed (none.0 i) (none.1.0 i) (none.1.1 i) in
+    rw e (record {
+      most = omega arith;
+      reads = record { tokens = []; eq = ap (λ (a : ℕ). read a []) (sym (add-zero at)); count = refl };
+    })
 
 -- those that keep their rules
 pub pass-plain : (o : Order) (t : Tree) (s : List ℕ) (w k : ℕ) (j : Bool) (m n at : ℕ) → Fixed w k j ≡ extent_of t → m ≤ n → at + m * w ≤ length s
-    → EachKeptHere o s t (Fixed w k j) at n → Passes o t s n at (passed_as m w k)
+    → EachKeptHere o s t (Fixed w k j) at n → Passes o t s n at (passed m (m * w) (m * k))
 pass-plain o t s w k j m n at known most room kept = record {
   most = most;
   reads = run-reads s t w k j (sym known) o m at (λ i h. subst (λ (p : ℕ). Kept o s t p) (fixed-place o s w k j at i) (kept i (omega arith))) room;
 }
 
 -- the first of more
-pub pass-more : (o : Order) (t : Tree) (s : List ℕ) (m n at : ℕ) (r : Passed) → m ≤ n → Passes o t s m at r → Passes o t s n at r
-pass-more o t s m n at r h passes = record { most = omega (arith, passes.most); reads = passes.reads }
+pub pass-more : {o : Order} {t : Tree} {s : List ℕ} {m n at : ℕ} {r : Passed} → m ≤ n → Passes o t s m at r → Passes o t s n at r
+pass-more {o} {t} {s} {m} {n} {at} {r} h passes = record { most = omega (arith, passes.most); reads = passes.reads }
 
 -- n scalars whose numbers each keep their rule, one step for all; each is walked by f, under the rule
 judged-run : (o : Order) (s : List ℕ) (c : ℕ) (r : Option ℕ) (f : ℕ → Outcome (List Token)) → ((a : ℕ) → f a ≡ ruled_at o c s a r)
@@ -120,28 +102,27 @@ pub record PassedWithin (s : List ℕ) (at : ℕ) (r : Passed) : Type 0 where
   pub tokens : r.tokens ≤ r.bytes
   pub inside : at + r.bytes ≤ length s
 
-pub passed-within : (o : Order) (t : Tree) (s : List ℕ) (n at : ℕ) (r : Passed) → Solid t → at ≤ length s → Passes o t s n at r → PassedWithin s at r
-passed-within o t s n at r solid h passes =
+pub passed-within : {o : Order} {t : Tree} {s : List ℕ} {n at : ℕ} {r : Passed} → Passes o t s n at r → Solid t → at ≤ length s → PassedWithin s at r
+passed-within {o} {t} {s} {n} {at} {r} passes solid h =
     let reads = passes.reads in
     let ends = holds_read reads.eq (repeat-forward s 1 (λ a. walk o t s a) (λ a l. walk-forward s t solid o a l) r.count at h) in
     record { tokens = omega (arith, ends.tokens, reads.count); inside = ends.inside }
 
 -- some, and then more
-pub pass-next : (o : Order) (t : Tree) (s : List ℕ) (n m at : ℕ) (a b r : Passed) → Passes o t s n at a → a.count + m ≤ n
-    → Passes o t s m (at + a.bytes) b → r ≡ record { count = a.count + b.count; bytes = a.bytes + b.bytes; tokens = a.tokens + b.tokens }
-    → Passes o t s n at r
-pass-next o t s n m at a b r first room next e =
+pub pass-next : {o : Order} {t : Tree} {s : List ℕ} {n m at : ℕ} {a b : Passed} → Passes o t s n at a → a.count + m ≤ n
+    → Passes o t s m (at + a.bytes) b → Passes o t s n at (together a b)
+pass-next {o} {t} {s} {n} {m} {at} {a} {b} first room next =
     let place : at + a.bytes + b.bytes ≡ at + (a.bytes + b.bytes) = omega arith in
     let both = reads-follow (λ q. repeat (λ u. walk o t s u) b.count q) first.reads next.reads in
-    rw e (record {
+    record {
       most = omega (arith, next.most);
       reads = reads_at (rw (repeat_split (λ u. walk o t s u) a.count b.count at) both) place refl;
-    })
+    }
 
 -- scalars that each keep their rule
 pub pass_kept : (d : List ℕ) (p : ℕ) → Stands d p → (w : ℕ) → w ≡ width_of (code_in d p) → 0 < w → (o : Order) (s : List ℕ) (m n at : ℕ) → m ≤ n
     → at + m * w ≤ length s → EachKeeps (type_limit (type_at d p)) o s w at m
-    → Passes o (type_at d p) s n at (record { count = m; bytes = m * w; tokens = m })
+    → Passes o (type_at d p) s n at (passed m (m * w) m)
 pass_kept d p here w wide some o s m n at most room kept =
     let fits : 0 < width_of (code_in d p) = omega arith in
     let one : m * 1 ≡ m = omega arith in
@@ -152,95 +133,78 @@ pass_kept d p here w wide some o s m n at most room kept =
     (omega arith) each in
     record { most = most; reads = reads_at run same one }
 
--- the front of an array whose elements are of the type t
-module _ (o : Order) (k : ℕ) (t : Tree) (s : List ℕ) (at : ℕ) where
-  abbrev element : ℕ → Outcome (List Token)
-  element a = walk o t s a
-
+-- the front of an array
+module _ (o : Order) (k : ℕ) (s : List ℕ) (at : ℕ) where
   -- a size word is missing or too large
-  pub front-refused : (number place : ℕ) → counted.Err (refusal_at number place) ≡ capped_sizes (array_at o s k at) → FrontMet o k t s at (Over (Err (refusal_at number place)))
+  pub front-refused : (t : Tree) (r : Refusal) → Err r ≡ capped_sizes (array_at o s k at) → FrontMet o k t s at (Err r)
   unfolding capped_sizes resumed Resumable progress
-  front-refused number place e = go (array_at o s k at) refl e
+  front-refused t r e = go (array_at o s k at) refl e
     where
-      go : (a : Outcome ℕ) → array_at o s k at ≡ a → counted.Err (refusal_at number place) ≡ capped_sizes a → FrontMet o k t s at (Over (Err (refusal_at number place)))
-      go (refused m q) h e =
-          let same : m ≡ number = cc in
-          let there : q ≡ place = cc in
-          record { eq = rw h (λ i. Err (refusal_at (same i) (there i))); within = tt }
-      go (read next n) h e = absurd (let z : ◌≡◌ {A = ℕ} 0 1 = cc in omega arith)
+      go : (a : Outcome ℕ) → array_at o s k at ≡ a → Err r ≡ capped_sizes a → FrontMet o k t s at (Err r)
+      go (refused m q) h e = let same : r ≡ refusal_at m q = cc in record { eq = rw h (ap Err (sym same)); within = tt }
+      go (read next n) h e = absurd (cc)
 
-  module _ (solid : Solid t) (short : length s ≤ data_limit) (n : ℕ) (c : Cursor) (sized : counted.Ok (sizes_of n c) ≡ capped_sizes (array_at o s k at)) where
-    -- the size words are there
+  -- the size words are there
+  module _ (z : Sizes) (sized : Ok z ≡ capped_sizes (array_at o s k at)) where
     pub record Sized : Type 0 where
-      pub place : c.at ≡ at + 4 * k
-      pub inside : c.at ≤ length s
-      pub whole : progress (elements_at o k element s at) ≡ plus 1 (progress (repeat element n c.at))
+      pub count : ℕ
+      pub eq : array_at o s k at ≡ read z.elements.at count
+      pub cut : z.count ≡ min count element_cap
+      pub place : z.elements.at ≡ at + 4 * k
+      pub inside : z.elements.at ≤ length s
 
     pub front-sized : Sized
-    unfolding capped_sizes progress plus
+    unfolding capped_sizes
     front-sized = go (array_at o s k at) refl (sizes-end s o k at) sized
       where
-        one_more : (next : ℕ) (u : Outcome (List Token)) → progress (and_then u (λ last ts. read last (token (sizes k) at next ∷ ts))) ≡ plus 1 (progress u)
-        one_more next (refused number place) = refl
-        one_more next (read last ts) = ap (λ (j : ℕ). Ok (walked_to (cursor last) j)) (let e : suc (length ts) ≡ 1 + length ts = omega arith in e)
-
-        go : (a : Outcome ℕ) → array_at o s k at ≡ a → Holds (λ q m. (q ≡ at + 4 * k) × (q ≤ length s)) a → counted.Ok (sizes_of n c) ≡ capped_sizes a → Sized
-        go (refused number place) h held e = absurd (let z : ◌≡◌ {A = ℕ} 0 1 = cc in omega arith)
+        go : (a : Outcome ℕ) → array_at o s k at ≡ a → Holds (λ q m. (q ≡ at + 4 * k) × (q ≤ length s)) a → Ok z ≡ capped_sizes a → Sized
+        go (refused number place) h held e = absurd (cc)
         go (read next m) h held e =
-            let there : c ≡ cursor next = cc in
-            let many : n ≡ min m element_cap = cc in
+            let same : z ≡ sizes_of (min m element_cap) (cursor next) = cc in
+            let start : z.elements.at ≡ next = ap (λ (x : Sizes). x.elements.at) same in
             let ends = holds_read refl held in
-            let start : c.at ≡ next = ap (λ (x : Cursor). x.at) there in
-            let inside : next ≤ length s = ends.1 in
             record {
-              place = omega (arith, ends.0);
-              inside = omega arith;
-              whole =
-                  ap (λ (a : Outcome ℕ). progress (and_then a (λ q j. and_then (repeat element j q) (λ last ts. read last (token (sizes k) at q ∷ ts))))) h
-                  ∙ one_more next (repeat element m next)
-                  ∙ ap (λ (u : Outcome (List Token)). plus 1 (progress u))
-                  (repeat-capped s element (λ a l. walk-forward s t solid o a l) short m next inside
-                  ∙ λ i. repeat element (sym many i) (sym start i));
+              count = m;
+              eq = h ∙ ap (λ (q : ℕ). read q m) (sym start);
+              cut = ap (λ (x : Sizes). x.count) same;
+              place = start ∙ ends.0;
+              inside = omega (arith, ends.1);
             }
 
-    module _ (r : Passed) (passes : Passes o t s n c.at r) where
-      -- the bytes and tokens of the elements passed
-      pub front-within : PassedWithin s c.at r
-      front-within = passed-within o t s n c.at r solid front-sized.inside passes
+    module _ (t : Tree) (solid : Solid t) (short : length s ≤ data_limit) where
+      whole : progress (elements_at o k (λ a. walk o t s a) s at) ≡ plus 1 (progress (repeat (λ a. walk o t s a) z.count z.elements.at))
+      unfolding progress plus
+      whole =
+          ap (λ (a : Outcome ℕ). progress (and_then a (λ q j. and_then (repeat (λ a. walk o t s a) j q) (λ last ts. read last (token (sizes k) at q ∷ ts))))) front-sized.eq
+          ∙ one_more z.elements.at (repeat (λ a. walk o t s a) front-sized.count z.elements.at)
+          ∙ ap (λ (u : Outcome (List Token)). plus 1 (progress u))
+          (repeat-capped s (λ a. walk o t s a) (λ a l. walk-forward s t solid o a l) short front-sized.count z.elements.at front-sized.inside
+          ∙ ap (λ (n : ℕ). repeat (λ a. walk o t s a) n z.elements.at) (sym front-sized.cut))
+        where
+          one_more : (next : ℕ) (u : Outcome (List Token)) → progress (and_then u (λ last ts. read last (token (sizes k) at next ∷ ts))) ≡ plus 1 (progress u)
+          one_more next (refused number place) = refl
+          one_more next (read last ts) = ap (λ (j : ℕ). Ok (walked_to (cursor last) j)) (let e : suc (length ts) ≡ 1 + length ts = omega arith in e)
 
-      -- the walk from the first element that was not passed
-      rest : progress (repeat element n c.at) ≡ plus r.tokens (progress (repeat element (n - r.count) (c.at + r.bytes)))
-      rest =
-          let split : n ≡ r.count + (n - r.count) = omega (arith, passes.most) in
-          ap (λ (j : ℕ). progress (repeat element j c.at)) split
-          ∙ ap progress (repeat_split element r.count (n - r.count) c.at)
-          ∙ follow-reads (repeat element r.count c.at) (λ a. repeat element (n - r.count) a) _ _ passes.reads
+      module _ {r : Passed} (passes : Passes o t s z.count z.elements.at r) where
+        -- the elements passed lie in the data
+        pub front-lies : LiesIn z r
+        front-lies =
+            let within = passed-within passes solid front-sized.inside in
+            record { most = passes.most; inside = omega (arith, within.inside); tokens = omega (arith, within.tokens, within.inside) }
 
-      total : progress (elements_at o k element s at) ≡ plus (1 + r.tokens) (progress (repeat element (n - r.count) (c.at + r.bytes)))
-      total = front-sized.whole ∙ ap (plus 1) rest ∙ plus-plus 1 r.tokens _
-
-      -- every element was passed
-      front-over : r.count ≡ n → FrontMet o k t s at (Over (Ok (walked_to (cursor (c.at + r.bytes)) (1 + r.tokens))))
-      unfolding resumed Resumable repeat progress plus
-      front-over e =
-          let none : n - r.count ≡ 0 = omega arith in
-          record {
-            eq =
-                total
-                ∙ ap (λ (j : ℕ). plus (1 + r.tokens) (progress (repeat element j (c.at + r.bytes)))) none
-                ∙ ap (λ (j : ℕ). Ok (walked_to (cursor (c.at + r.bytes)) j)) (add-zero (1 + r.tokens));
-            within = tt;
-          }
-
-      -- some were not
-      front_rest : 1 ≤ k → FrontMet o k t s at (Rest (n - r.count) (cursor (c.at + r.bytes)) (1 + r.tokens))
-      unfolding resumed Resumable
-      front_rest some = record {
-        eq = total;
-        within = (omega (arith, front-sized.place, front-within.tokens), front-within.inside);
-      }
-
-      -- either way
-      pub front-left : 1 ≤ k → (f : Front) → LeftAfter n c.at r f → FrontMet o k t s at f
-      front-left some f left =
-          ⊎_elim (λ u. subst (λ (x : Front). FrontMet o k t s at x) (sym u.1) (front-over u.0)) (λ e. subst (λ (x : Front). FrontMet o k t s at x) (sym e) (front_rest some)) left
+        -- and those that were not passed are left
+        pub front-left : 1 ≤ k → FrontMet o k t s at (Ok (left_after z r))
+        unfolding resumed Resumable
+        front-left some =
+            let within = passed-within passes solid front-sized.inside in
+            let split : z.count ≡ r.count + (z.count - r.count) = omega (arith, passes.most) in
+            record {
+              eq =
+                  whole
+                  ∙ ap (plus 1)
+                  (ap (λ (j : ℕ). progress (repeat (λ a. walk o t s a) j z.elements.at)) split
+                  ∙ ap progress (repeat_split (λ a. walk o t s a) r.count (z.count - r.count) z.elements.at)
+                  ∙ follow-reads (repeat (λ a. walk o t s a) r.count z.elements.at) (λ a. repeat (λ u. walk o t s u) (z.count - r.count) a) _ _ passes.reads)
+                  ∙ plus-plus 1 r.tokens _;
+              within = (omega (arith, front-sized.place, within.tokens), within.inside);
+            }

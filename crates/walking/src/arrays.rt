@@ -8,30 +8,52 @@ ghost use Rattle.flattened.specs.inner.Order.{order_of};
 ghost use Rattle.flattened.specs.inner.Extent.{type_limit, extent_of};
 ghost use Rattle.flattened.specs.inner.Types.{type_at, TypeStands, DataAt};
 ghost use Rattle.flattened.specs.inner.Arrays.{EachKeeps};
-ghost use Rattle.walking.specs.inner.Fronts.{Passes, PassesEither, PassesAround, LeftAfter, FrontMet};
+ghost use Rattle.walking.specs.inner.Fronts.{Passes, PassesEither, PassesAround, passed, Together, together, LiesIn, left_after, FrontMet};
 
-use elements::columns::{across, keeping};
-use elements::largest::{longer, low, shorter};
-use flattened::cursor::{Cursor, Skip};
-use flattened::extent::{Extent, Rule, extent_of, rule_of};
+use descriptor::refusal::Refusal;
+use elements::columns::{across, judged_in, keeping};
+use elements::largest::{longer, low};
+use flattened::cursor::Cursor;
+use flattened::extent::{Extent, extent_of, limit_of};
+use flattened::limits::ELEMENT_CAP;
 use flattened::order::Order;
-use flattened::progress::Progress;
+use flattened::progress::Walked;
 use flattened::sizes::{Sizes, size_words};
+use std::ops::Add;
+
+// The elements that are judged together first, where any are.
+const FIRST_STRETCH: usize = 64;
 
 // How many elements are passed in one step, and their bytes and tokens.
-#[derive(Clone, Copy)]
+#[derive(Clone, Copy, Debug, Default, PartialEq, Eq)]
 pub struct Passed {
     pub count: usize,
     pub bytes: usize,
     pub tokens: usize,
 }
 
-// What the front of an array comes to: nothing is left to walk; or so many elements are, from the cursor on, and so many tokens went
-// before them.
-#[derive(Clone, Copy)]
-pub enum Front {
-    Over(Progress),
-    Rest(usize, Cursor, usize),
+// Elements that are passed after others.
+impl Add for Passed {
+    type Output = Passed;
+
+    ghost can_add = { Together };
+
+    ghost add_gives = { λ a b r. r ≡ together a b };
+
+    fn add(self, more: Passed) -> Passed {
+        Passed {
+            count: self.count + more.count,
+            bytes: self.bytes + more.bytes,
+            tokens: self.tokens + more.tokens,
+        }
+    }
+}
+
+// What the front of an array leaves to walk: so many elements, and how far the walk came before them.
+#[derive(Clone, Copy, Debug, PartialEq, Eq)]
+pub struct Front {
+    pub left: usize,
+    pub walked: Walked,
 }
 
 // How many of n elements of w bytes fit into `room` bytes.
@@ -39,10 +61,8 @@ fn fitting(n: usize, w: usize, room: usize) -> usize
     requires { (0 < w) × (w < 2 ^ 40) × (room ≤ data_limit) }
     ensures { result ≡ min n (room / w) }
 {
-    if n <= room {
-        if n * w <= room {
-            return n;
-        }
+    if n <= room && n * w <= room {
+        return n;
     }
     room / w
 }
@@ -50,24 +70,13 @@ fn fitting(n: usize, w: usize, room: usize) -> usize
 // How many of the first of n scalars of the type at p, of w bytes each, keep its rule.
 fn kept(d: &[u8], p: usize, w: usize, n: usize, s: &[u8], at: usize, o: Order) -> usize
     requires stands { Stands d.now p }
-    requires w_value { w ≡ width_of (code_in d.now p) }
-    requires w_in_bounds { at + n * w ≤ length s.now }
+    requires wide { w ≡ width_of (code_in d.now p) }
+    requires fit { at + n * w ≤ length s.now }
     ensures { (result ≤ n) × EachKeeps (type_limit (type_at d.now p)) (order_of o) s.now w at result }
 {
-    let rule = rule_of(d, p);
-    match rule {
-        Rule::Any => n,
-        Rule::Below(limit) => low(limit, s, at, w, w, n, o),
-    }
-}
-
-fn none_passed() -> Passed
-    ensures { result ≡ record { count = 0; bytes = 0; tokens = 0 } }
-{
-    Passed {
-        count: 0,
-        bytes: 0,
-        tokens: 0,
+    match limit_of(d, p) {
+        None => n,
+        Some(limit) => low(limit, s, at, w, w, n, o),
     }
 }
 
@@ -75,7 +84,7 @@ fn none_passed() -> Passed
 // first that is refused.
 fn pass_scalars(d: &[u8], p: usize, w: usize, n: usize, s: &[u8], at: usize, o: Order) -> Passed
     requires stands { Stands d.now p }
-    requires w_value { (w ≡ width_of (code_in d.now p)) × (0 < w) }
+    requires wide { (w ≡ width_of (code_in d.now p)) × (0 < w) }
     requires data_at { DataAt s.now at }
     ensures { Passes (order_of o) (type_at d.now p) s.now n at result }
 {
@@ -91,7 +100,7 @@ fn pass_scalars(d: &[u8], p: usize, w: usize, n: usize, s: &[u8], at: usize, o: 
 // So many values, of `tokens` tokens each.
 fn many(count: usize, bytes: usize, tokens: usize) -> Passed
     requires { count * tokens < 2 ^ 64 }
-    ensures { result ≡ record { count = count; bytes = bytes; tokens = count * tokens } }
+    ensures { result ≡ passed count bytes (count * tokens) }
 {
     Passed {
         count,
@@ -102,8 +111,8 @@ fn many(count: usize, bytes: usize, tokens: usize) -> Passed
 
 // n values of w bytes and `tokens` tokens each are passed in one step: they fit.
 fn pass_fixed(w: usize, tokens: usize, n: usize, s: &[u8], at: usize) -> Passed
-    requires tokens_le_w { tokens ≤ w }
-    requires w_in_bounds { at + n * w ≤ length s.now }
+    requires tokens { tokens ≤ w }
+    requires fit { at + n * w ≤ length s.now }
     ensures { PassesEither w tokens s.now n at result }
 {
     many(n, n * w, tokens)
@@ -120,24 +129,22 @@ fn pass_around(
     from: Cursor,
     o: Order,
 ) -> Passed
-    requires tokens_bound { tokens ≤ before + 4 + after }
+    requires tokens { tokens ≤ before + 4 + after }
     requires data_at { DataAt s.now from.at }
     ensures { PassesAround (order_of o) before after tokens s.now n from.at result }
 {
     let mut next = from;
-    let mut count = 0;
-    while count < n {
-        let r = across(before, after, s, next, o);
-        let Skip::To(end) = r else {
+    for count in 0..n {
+        let Some(end) = across(before, after, s, next, o) else {
             return many(count, next.at - from.at, tokens);
         };
         next = end;
-        count += 1;
     }
-    many(count, next.at - from.at, tokens)
+    many(n, next.at - from.at, tokens)
 }
 
 // How many of the first of n elements of the type at p, of the extent x, are passed in one step: those that fit, up to one that is refused.
+#[tactic(auto, unfolding(flattened::specs::inner::Columns::Definite, elements::specs::inner::Placing::Roomy))]
 fn pass_extent(
     d: &[u8],
     p: usize,
@@ -149,33 +156,21 @@ fn pass_extent(
     left: usize,
 ) -> Passed
     requires type_stands { TypeStands d.now p left }
-    requires x_value { x ≡ extent_of (type_at d.now p) }
+    requires extent { x ≡ extent_of (type_at d.now p) }
     requires data_at { DataAt s.now from.at }
     ensures { Passes (order_of o) (type_at d.now p) s.now n from.at result }
 {
     match x {
-        Extent::Varies => none_passed(),
-        Extent::Fixed(w, tokens, judged) => {
+        Extent::Varies => Passed::default(),
+        Extent::Fixed(w, tokens, _) => {
             let fit = fitting(n, w, s.len() - from.at);
-            let most = keeping(d, p, x, judged, fit, s, from, o, left);
+            let most = keeping(d, p, x, fit, s, from, o, left);
             pass_fixed(w, tokens, most, s, from.at)
         }
-        Extent::Around(before, after, tokens, judged) => {
-            let most = keeping(d, p, x, judged, n, s, from, o, left);
+        Extent::Around(before, after, tokens, _) => {
+            let most = keeping(d, p, x, n, s, from, o, left);
             pass_around(before, after, tokens, most, s, from, o)
         }
-    }
-}
-
-// Elements that are passed after others.
-fn together(a: Passed, b: Passed) -> Passed
-    requires { (a.count + b.count < 2 ^ 64) × (a.bytes + b.bytes < 2 ^ 64) × (a.tokens + b.tokens < 2 ^ 64) }
-    ensures { result ≡ record { count = a.count + b.count; bytes = a.bytes + b.bytes; tokens = a.tokens + b.tokens } }
-{
-    Passed {
-        count: a.count + b.count,
-        bytes: a.bytes + b.bytes,
-        tokens: a.tokens + b.tokens,
     }
 }
 
@@ -193,32 +188,23 @@ fn pass_stretches(
     left: usize,
 ) -> Passed
     requires type_stands { TypeStands d.now p left }
-    requires x_value { x ≡ extent_of (type_at d.now p) }
-    requires first_nonzero { 0 < first }
+    requires extent { x ≡ extent_of (type_at d.now p) }
+    requires first { 0 < first }
     requires data_at { DataAt s.now from.at }
     ensures { Passes (order_of o) (type_at d.now p) s.now n from.at result }
 {
-    let mut passed = none_passed();
+    let mut passed = Passed::default();
     let mut stretch = first;
     while passed.count < n {
-        let span = shorter(stretch, n - passed.count);
+        let span = stretch.min(n - passed.count);
         let more = pass_extent(d, p, x, span, s, from.past(passed.bytes), o, left);
-        passed = together(passed, more);
+        passed = passed + more;
         if more.count < span {
             return passed;
         }
         stretch = longer(stretch);
     }
     passed
-}
-
-// Whether any number in it is judged.
-fn judged_in(x: Extent) -> bool {
-    match x {
-        Extent::Varies => false,
-        Extent::Fixed(w, tokens, judged) => judged,
-        Extent::Around(before, after, tokens, judged) => judged,
-    }
 }
 
 // How many of the first of n elements of the type at p are passed in one step, by their extent; where none is judged, as one stretch of
@@ -229,22 +215,26 @@ fn pass(d: &[u8], p: usize, n: usize, s: &[u8], from: Cursor, o: Order, left: us
     ensures { Passes (order_of o) (type_at d.now p) s.now n from.at result }
 {
     let x = extent_of(d, p, left);
-    if judged_in(x) {
-        return pass_stretches(d, p, x, 64, n, s, from, o, left);
-    }
-    pass_stretches(d, p, x, 4294967296, n, s, from, o, left)
+    let first = if judged_in(x) {
+        FIRST_STRETCH
+    } else {
+        ELEMENT_CAP
+    };
+    pass_stretches(d, p, x, first, n, s, from, o, left)
 }
 
-// What is left of n elements, after those passed and the token of the sizes.
-fn left_after(n: usize, elements: Cursor, passed: Passed) -> Front
-    requires { (passed.count ≤ n) × (elements.at + passed.bytes ≤ data_limit) × (passed.tokens ≤ data_limit) }
-    ensures { LeftAfter n elements.at passed result }
+// What is left of an array's elements, after those passed and the token of the sizes.
+fn left_after(sizes: Sizes, passed: Passed) -> Front
+    requires { LiesIn sizes passed }
+    ensures { result ≡ left_after sizes passed }
 {
-    let next = elements.past(passed.bytes);
-    if passed.count == n {
-        return Front::Over(Progress::Walked(next, 1 + passed.tokens));
+    Front {
+        left: sizes.count - passed.count,
+        walked: Walked {
+            next: sizes.elements.past(passed.bytes),
+            tokens: 1 + passed.tokens,
+        },
     }
-    Front::Rest(n - passed.count, next, 1 + passed.tokens)
 }
 
 // The front of an array of scalars of the type at p, of w bytes each. It hands on no slice to a function that stands by itself, so that its
@@ -257,21 +247,16 @@ pub fn scalar_front(
     s: &[u8],
     from: Cursor,
     o: Order,
-) -> Front
+) -> Result<Front, Refusal>
     requires stands { Stands d.now p }
-    requires w_value { (w ≡ width_of (code_in d.now p)) × (0 < w) }
-    requires le_dims { (1 ≤ dims) × (dims ≤ dimension_limit) }
+    requires wide { (w ≡ width_of (code_in d.now p)) × (0 < w) }
+    requires dims { (1 ≤ dims) × (dims ≤ dimension_limit) }
     requires data_at { DataAt s.now from.at }
     ensures { FrontMet (order_of o) dims (type_at d.now p) s.now from.at result }
 {
-    let sizes = size_words(s, from, dims, o);
-    match sizes {
-        Sizes::Refused(number, place) => Front::Over(Progress::Refused(number, place)),
-        Sizes::Count(n, elements) => {
-            let passed = pass_scalars(d, p, w, n, s, elements.at, o);
-            left_after(n, elements, passed)
-        }
-    }
+    let sizes = size_words(s, from, dims, o)?;
+    let passed = pass_scalars(d, p, w, sizes.count, s, sizes.elements.at, o);
+    Ok(left_after(sizes, passed))
 }
 
 // The front of the array whose elements are of the type at p.
@@ -283,18 +268,13 @@ pub fn array_front(
     from: Cursor,
     o: Order,
     left: usize,
-) -> Front
+) -> Result<Front, Refusal>
     requires type_stands { TypeStands d.now p left }
-    requires le_dims { (1 ≤ dims) × (dims ≤ dimension_limit) }
+    requires dims { (1 ≤ dims) × (dims ≤ dimension_limit) }
     requires data_at { DataAt s.now from.at }
     ensures { FrontMet (order_of o) dims (type_at d.now p) s.now from.at result }
 {
-    let sizes = size_words(s, from, dims, o);
-    match sizes {
-        Sizes::Refused(number, place) => Front::Over(Progress::Refused(number, place)),
-        Sizes::Count(n, elements) => {
-            let passed = pass(d, p, n, s, elements, o, left);
-            left_after(n, elements, passed)
-        }
-    }
+    let sizes = size_words(s, from, dims, o)?;
+    let passed = pass(d, p, sizes.count, s, sizes.elements, o, left);
+    Ok(left_after(sizes, passed))
 }

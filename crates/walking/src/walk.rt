@@ -1,12 +1,12 @@
 // The walk of data under a type. It runs on the accepted descriptor's own bytes, calls itself on what stands inside a type with less
 // of the depth left, and counts tokens.
-ghost use Rattle.std.specs.Prelude.{◌≡◌, ◌+◌, ◌^◌, ◌≤◌, ◌<◌, length};
+ghost use Rattle.std.specs.Prelude.{◌≡◌, ◌≤◌, length, Ok};
 ghost use Rattle.descriptor.specs.Limits.{data_limit};
 ghost use Rattle.descriptor.specs.Header.{code_in};
 ghost use Rattle.descriptor.specs.Width.{width_of};
 ghost use Rattle.flattened.specs.Walk.{repeat, walk, walk_all};
 ghost use Rattle.flattened.specs.inner.Order.{order_of};
-ghost use Rattle.flattened.specs.inner.Progress.{progress, plus, tokens_of};
+ghost use Rattle.flattened.specs.inner.Progress.{progress};
 ghost use Rattle.flattened.specs.inner.Types.{type_at, types_at, TypeStands, RowStands, DataAt};
 ghost use Rattle.walking.specs.inner.Fronts.{resumed, Resumable};
 
@@ -14,40 +14,48 @@ use super::arrays::{Front, array_front, scalar_front};
 use descriptor::codes::{Kind, is_compound, kind_of};
 use descriptor::header::{code_at, size_at};
 use descriptor::inside::inside_of;
+use descriptor::refusal::Refusal;
 use descriptor::width::width;
 use flattened::cursor::Cursor;
 use flattened::order::Order;
-use flattened::progress::Progress;
+use flattened::progress::Walked;
 use flattened::scalar::scalar;
 use flattened::texts::texts;
 
-// The progress r after `tokens` tokens.
-fn after(tokens: usize, r: Progress) -> Progress
-    requires { tokens + tokens_of r < 2 ^ 64 }
-    ensures { result ≡ plus tokens r }
-{
-    match r {
-        Progress::Walked(next, count) => Progress::Walked(next, tokens + count),
-        Progress::Refused(number, place) => Progress::Refused(number, place),
-    }
-}
-
 // What an array comes to after its front: the elements that are left, of the type at p, are walked.
 #[cycle(array_row_rows_value_walk)]
-fn array(d: &[u8], p: usize, front: Front, s: &[u8], o: Order, left: usize) -> Progress
+fn array(
+    d: &[u8],
+    p: usize,
+    front: Front,
+    s: &[u8],
+    o: Order,
+    left: usize,
+) -> Result<Walked, Refusal>
     requires type_stands { TypeStands d.now p left }
-    requires resumable { Resumable s.now front × (length s.now ≤ data_limit) }
-    ensures { result ≡ resumed front (λ n a. progress (repeat (λ e. walk (order_of o) (type_at d.now p) s.now e) n a)) }
+    requires resumable { Resumable s.now (Ok front) × (length s.now ≤ data_limit) }
+    ensures { result ≡ resumed (Ok front) (λ n a. progress (repeat (λ e. walk (order_of o) (type_at d.now p) s.now e) n a)) }
 {
-    match front {
-        Front::Over(r) => r,
-        Front::Rest(n, next, tokens) => after(tokens, walk(d, p, n, s, next, o, left)),
+    if front.left == 0 {
+        return Ok(front.walked);
     }
+    let rest = walk(d, p, front.left, s, front.walked.next, o, left)?;
+    Ok(Walked {
+        next: rest.next,
+        tokens: front.walked.tokens + rest.tokens,
+    })
 }
 
 // The value of the type at p, which has no fixed width of its own.
 #[cycle(array_row_rows_value_walk)]
-fn value(d: &[u8], p: usize, s: &[u8], from: Cursor, o: Order, left: usize) -> Progress
+fn value(
+    d: &[u8],
+    p: usize,
+    s: &[u8],
+    from: Cursor,
+    o: Order,
+    left: usize,
+) -> Result<Walked, Refusal>
     requires type_stands { TypeStands d.now p left }
     requires p_value { width_of (code_in d.now p) ≡ 0 }
     requires data_at { DataAt s.now from.at }
@@ -61,9 +69,9 @@ fn value(d: &[u8], p: usize, s: &[u8], from: Cursor, o: Order, left: usize) -> P
     if let Kind::Array = k {
         let w = width(code_at(d, inside.at));
         let front = if w != 0 {
-            scalar_front(d, inside.at, w, inside.count, s, from, o)
+            scalar_front(d, inside.at, w, inside.count, s, from, o)?
         } else {
-            array_front(d, inside.at, inside.count, s, from, o, left - 1)
+            array_front(d, inside.at, inside.count, s, from, o, left - 1)?
         };
         return array(d, inside.at, front, s, o, left - 1);
     }
@@ -72,7 +80,15 @@ fn value(d: &[u8], p: usize, s: &[u8], from: Cursor, o: Order, left: usize) -> P
 
 // The values of the k types that stand in a row from `start` on.
 #[cycle(array_row_rows_value_walk)]
-fn row(d: &[u8], start: usize, k: usize, s: &[u8], from: Cursor, o: Order, left: usize) -> Progress
+fn row(
+    d: &[u8],
+    start: usize,
+    k: usize,
+    s: &[u8],
+    from: Cursor,
+    o: Order,
+    left: usize,
+) -> Result<Walked, Refusal>
     requires row_stands { RowStands d.now k start left }
     requires data_at { DataAt s.now from.at }
     ensures { result ≡ progress (walk_all (order_of o) (types_at d.now k start) s.now from.at) }
@@ -80,23 +96,18 @@ fn row(d: &[u8], start: usize, k: usize, s: &[u8], from: Cursor, o: Order, left:
     let mut p = start;
     let mut next = from;
     let mut tokens = 0;
-    let mut i = 0;
-    while i < k {
+    for _ in 0..k {
         let w = width(code_at(d, p));
-        let r = if w != 0 {
-            scalar(d, p, w, s, next, o)
+        let read = if w != 0 {
+            scalar(d, p, w, s, next, o)?
         } else {
-            value(d, p, s, next, o, left)
+            value(d, p, s, next, o, left)?
         };
-        let Progress::Walked(end, count) = r else {
-            return r;
-        };
-        next = end;
-        tokens += count;
+        next = read.next;
+        tokens += read.tokens;
         p += size_at(d, p);
-        i += 1;
     }
-    Progress::Walked(next, tokens)
+    Ok(Walked { next, tokens })
 }
 
 // n times the values of the k types that stand in a row from `start` on.
@@ -110,29 +121,32 @@ fn rows(
     from: Cursor,
     o: Order,
     left: usize,
-) -> Progress
+) -> Result<Walked, Refusal>
     requires row_stands { RowStands d.now k start left }
     requires data_at { DataAt s.now from.at }
     ensures { result ≡ progress (repeat (λ a. walk_all (order_of o) (types_at d.now k start) s.now a) n from.at) }
 {
     let mut next = from;
     let mut tokens = 0;
-    let mut i = 0;
-    while i < n {
-        let r = row(d, start, k, s, next, o, left);
-        let Progress::Walked(end, count) = r else {
-            return r;
-        };
-        next = end;
-        tokens += count;
-        i += 1;
+    for _ in 0..n {
+        let read = row(d, start, k, s, next, o, left)?;
+        next = read.next;
+        tokens += read.tokens;
     }
-    Progress::Walked(next, tokens)
+    Ok(Walked { next, tokens })
 }
 
 // n values of the type at p, one after another.
 #[cycle(array_row_rows_value_walk)]
-pub fn walk(d: &[u8], p: usize, n: usize, s: &[u8], from: Cursor, o: Order, left: usize) -> Progress
+pub fn walk(
+    d: &[u8],
+    p: usize,
+    n: usize,
+    s: &[u8],
+    from: Cursor,
+    o: Order,
+    left: usize,
+) -> Result<Walked, Refusal>
     requires type_stands { TypeStands d.now p left }
     requires data_at { DataAt s.now from.at }
     ensures { result ≡ progress (repeat (λ a. walk (order_of o) (type_at d.now p) s.now a) n from.at) }
@@ -150,7 +164,14 @@ pub fn walk(d: &[u8], p: usize, n: usize, s: &[u8], from: Cursor, o: Order, left
 }
 
 // One value of the type at p.
-pub fn walk_one(d: &[u8], p: usize, s: &[u8], from: Cursor, o: Order, left: usize) -> Progress
+pub fn walk_one(
+    d: &[u8],
+    p: usize,
+    s: &[u8],
+    from: Cursor,
+    o: Order,
+    left: usize,
+) -> Result<Walked, Refusal>
     requires type_stands { TypeStands d.now p left }
     requires data_at { DataAt s.now from.at }
     ensures { result ≡ progress (walk (order_of o) (type_at d.now p) s.now from.at) }

@@ -1,59 +1,53 @@
 -- `step` meets its contract: into an array, into a compound, or nowhere.
 use mathlib.Core.Path.{◌≡◌, sym, ap, ◌∙◌}
-use Rattle.descriptor.specs.Codes.{array, kind_of}
+use mathlib.Core.Bool.{true, false}
+use Rattle.descriptor.specs.Codes.{kind_of}
 use Rattle.descriptor.specs.Header.{code_in}
 use Rattle.descriptor.specs.inner.Steps.{kind_is, is_compound}
-use Rattle.descriptor.specs.declared.codes.Kind.TheVariants as kinds
 use Rattle.descriptor.proofs.Bodies.{header-room}
-use Rattle.descriptor.proofs.CodeKinds.{kind_named, known}
-use Rattle.access.proofs.Stepping.{shallow, step-none, compound-lies, compound-reached, array_lies, array-reached}
+use Rattle.descriptor.proofs.CodeKinds.{kind_known}
+use Rattle.access.proofs.Stepping.{shallow, step_none, compound_lies, compound_reached, array_lies, array_reached}
 use Rattle.access.proofs.steps.step.Goals as goal
 
 pub code_at-code-requires : goal.code_at-code-requires
-code_at-code-requires c = let a = c.args in header-room a.d.now a.p c.requires.lies.type.here
-
-pub inside_of-inside-requires : goal.inside_of-inside-requires
-inside_of-inside-requires c = c.requires.lies.type.here
+code_at-code-requires c = header-room c.args.d.now c.args.x.place c.requires.lies.type.here
 
 pub element-requires : goal.element-requires
-unfolding kind_named
 element-requires c =
-    let start = c in
-    let a = start.args in
-    let kind = known _ kinds.Array (kind_of c.code_at-code.result) c.kind_of-kind.ensures c.in-Array.is ∙ ap kind_of c.code_at-code.ensures in
-    record { array_lies = array_lies a.d.now a.p a.i a.k a.s.now a.from.at start.requires.lies _ c.inside_of-inside.ensures kind; k_bound = (start.requires.k_bound, shallow start.requires.lies.type) }
+    let a = c.args in
+    let lies = c.requires.lies in
+    let kind = sym (kind_known (code_in a.d.now a.x.place) _ (rw c.code_at-code.ensures at c.in-Array.ensures)) in
+    record {
+      array_lies = array_lies a.d.now a.x.place a.i a.k a.s.now a.x.start.at lies _ c.inside_of-inside.ensures kind;
+      small = (c.requires.small, shallow lies.type);
+    }
 
 pub returns-in-Array : goal.returns-in-Array
-unfolding kind_named
 returns-in-Array c =
-    let start = c in
-    let a = start.args in
-    let kind = known _ kinds.Array (kind_of c.code_at-code.result) c.kind_of-kind.ensures c.in-Array.is ∙ ap kind_of c.code_at-code.ensures in
-    array-reached a.d.now a.p a.i a.k a.s.now a.from.at start.requires.lies _ c.inside_of-inside.ensures kind _ c.element.ensures
-
-pub inside_of-inside-requires-then-is_compound : goal.inside_of-inside-requires-then-is_compound
-inside_of-inside-requires-then-is_compound c = c.requires.lies.type.here
+    let a = c.args in
+    let kind = sym (kind_known (code_in a.d.now a.x.place) _ (rw c.code_at-code.ensures at c.in-Array.ensures)) in
+    array_reached a.d.now a.x.place a.i a.k a.s.now a.x.start.at c.requires.lies _ c.inside_of-inside.ensures kind _ c.element.ensures
 
 pub member-requires : goal.member-requires
 member-requires c =
-    let start = c in
-    let a = start.args in
-    let kind = ap (λ x. is_compound (kind_of x)) (sym c.code_at-code.ensures) ∙ sym c.is_compound.ensures ∙ c.if-is_compound.true in
-    record { row_lies = compound-lies a.d.now a.p a.i a.k a.s.now a.from.at start.requires.lies _ c.inside_of-inside-then-is_compound.ensures kind; i_lt_depth_limit = shallow start.requires.lies.type }
+    let a = c.args in
+    let lies = c.requires.lies in
+    let kind : is_compound (kind_of (code_in a.d.now a.x.place)) ≡ true = cc in
+    record {
+      row_lies = compound_lies a.d.now a.x.place a.i a.k a.s.now a.x.start.at lies _ c.inside_of-inside-then-is_compound.ensures kind;
+      deep = shallow lies.type;
+    }
 
 pub returns-then-is_compound : goal.returns-then-is_compound
 returns-then-is_compound c =
-    let start = c in
-    let a = start.args in
-    let kind = ap (λ x. is_compound (kind_of x)) (sym c.code_at-code.ensures) ∙ sym c.is_compound.ensures ∙ c.if-is_compound.true in
-    compound-reached a.d.now a.p a.i a.k a.s.now a.from.at start.requires.lies _ c.inside_of-inside-then-is_compound.ensures kind _ c.member.ensures
+    let a = c.args in
+    let kind : is_compound (kind_of (code_in a.d.now a.x.place)) ≡ true = cc in
+    compound_reached a.d.now a.x.place a.i a.k a.s.now a.x.start.at c.requires.lies _ c.inside_of-inside-then-is_compound.ensures kind _ c.member.ensures
 
 pub returns : goal.returns
 unfolding kind_is
 returns c =
-    let start = c in
-    let a = start.args in
-    let is = c.kind_of-kind.ensures ∙ ap (λ x. kind_is (kind_of x)) c.code_at-code.ensures in
-    let no-array : (array ≡ kind_of (code_in a.d.now a.p) → ⊥) = λ e. c.in_default.not-Array (is ∙ ap kind_is (sym e)) in
-    let simple = ap (λ x. is_compound (kind_of x)) (sym c.code_at-code.ensures) ∙ sym c.is_compound.ensures ∙ c.if-is_compound.false in
-    step-none a.d.now a.p a.i a.k a.s.now a.from.at start.requires.lies no-array simple
+    let a = c.args in
+    let is : c.kind_of.result ≡ kind_is (kind_of (code_in a.d.now a.x.place)) = cc in
+    let simple : is_compound (kind_of (code_in a.d.now a.x.place)) ≡ false = cc in
+    step_none a.d.now a.x.place a.i a.k a.s.now a.x.start.at c.requires.lies (λ e. c.in_default.not-Array (is ∙ ap kind_is (sym e))) simple

@@ -30,7 +30,6 @@ extent_of-returns-then-w-ne0 t c =
     (λ i. Fixed (wide i) 1 (judged i)) ∙ extent-number a.d.now a.p c.requires.here (omega (arith, c.if-w-ne0.true))
 
 pub extent_of-returns-in-Text : goal.extent_of-returns-in-Text
-unfolding kind_named
 extent_of-returns-in-Text t c =
     let a = c.args in
     let kind = known _ kinds.Text (kind_of c.code_at-code.result) c.kind_of-k.ensures c.in-Text.is ∙ ap kind_of c.code_at-code.ensures in

@@ -1,41 +1,31 @@
 -- `array_front` meets its contract: the size words, the elements that are passed, and what is left of them.
-use mathlib.Core.Path.{sym, ◌∙◌}
-use native.Mathlib.Omega.{arith}
+use Rattle.std.proofs.lemmas.Result.{err_from_is_err_and}
 use Rattle.flattened.specs.inner.Order.{order_of}
 use Rattle.flattened.specs.inner.Types.{type_at}
 use Rattle.flattened.proofs.Types.{type-solid}
-use Rattle.walking.proofs.Passing.{front-refused, front-sized, front-within, front-left}
+use Rattle.walking.proofs.Passing.{front-refused, front-sized, front-lies, front-left}
 use Rattle.walking.proofs.arrays.array_front.Goals as goal
 
-pub size_words-sizes-requires : goal.size_words-sizes-requires
-size_words-sizes-requires c = (c.requires.le_dims.1, c.requires.data_at.inside)
-
-pub pass-passed-requires : goal.pass-passed-requires
-pass-passed-requires c =
+pub returns-in_err-sizes : goal.returns-in_err-sizes
+returns-in_err-sizes c =
     let a = c.args in
-    let t = type_at a.d.now a.p in
-    let solid = type-solid a.d.now a.p a.left c.requires.type_stands in
-    let sized = sym c.in-Count.is ∙ c.size_words-sizes.ensures in
-    record { type_stands = c.requires.type_stands; data_at = record { inside = (front-sized (order_of a.o) a.dims t a.s.now a.from.at solid c.requires.data_at.short _ _ sized).inside; short = c.requires.data_at.short } }
+    let p = err_from_is_err_and c.from_residual.result c.from_residual.ensures.1 in
+    rw (p.1, p.2) (front-refused (order_of a.o) a.dims a.s.now a.from.at _ _ c.in_err-sizes.ensures)
+
+pub pass-passed-requires-clause-data_at : goal.pass-passed-requires-clause-data_at
+pass-passed-requires-clause-data_at c =
+    let a = c.args in
+    record { inside = (front-sized (order_of a.o) a.dims a.s.now a.from.at _ c.in_ok-sizes.ensures).inside; short = c.requires.data_at.short }
 
 pub left_after-requires : goal.left_after-requires
 left_after-requires c =
     let a = c.args in
-    let t = type_at a.d.now a.p in
     let solid = type-solid a.d.now a.p a.left c.requires.type_stands in
-    let sized = sym c.in-Count.is ∙ c.size_words-sizes.ensures in
-    let within = front-within (order_of a.o) a.dims t a.s.now a.from.at solid c.requires.data_at.short _ _ sized _ c.pass-passed.ensures in
-    (c.pass-passed.ensures.most, omega (arith, within.inside, c.requires.data_at.short), omega (arith, within.tokens, within.inside, c.requires.data_at.short))
+    front-lies (order_of a.o) a.dims a.s.now a.from.at _ c.in_ok-sizes.ensures (type_at a.d.now a.p) solid c.requires.data_at.short c.pass-passed.ensures
 
-pub returns-in-Refused : goal.returns-in-Refused
-returns-in-Refused c =
+pub returns : goal.returns
+returns c =
     let a = c.args in
-    front-refused (order_of a.o) a.dims _ a.s.now a.from.at _ _ (sym c.in-Refused.is ∙ c.size_words-sizes.ensures)
-
-pub returns-in-Count : goal.returns-in-Count
-returns-in-Count c =
-    let a = c.args in
-    let t = type_at a.d.now a.p in
     let solid = type-solid a.d.now a.p a.left c.requires.type_stands in
-    let sized = sym c.in-Count.is ∙ c.size_words-sizes.ensures in
-    front-left (order_of a.o) a.dims t a.s.now a.from.at solid c.requires.data_at.short _ _ sized _ c.pass-passed.ensures c.requires.le_dims.0 _ c.left_after.ensures
+    rw c.left_after.ensures
+    (front-left (order_of a.o) a.dims a.s.now a.from.at _ c.in_ok-sizes.ensures (type_at a.d.now a.p) solid c.requires.data_at.short c.pass-passed.ensures c.requires.dims.0)

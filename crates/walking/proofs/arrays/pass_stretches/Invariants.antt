@@ -1,4 +1,4 @@
--- `pass_stretches` meets its contract. The invariant: the elements passed are those that the walk reads.
+-- The elements passed are those that the walk reads.
 use Prim.Native.Nat.{◌-◌, ◌<◌}
 use Rattle.flattened.specs.inner.Order.{order_of}
 use Rattle.flattened.specs.inner.Types.{type_at}

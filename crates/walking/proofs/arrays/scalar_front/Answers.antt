@@ -1,48 +1,34 @@
 -- `scalar_front` meets its contract: the size words, the scalars that are passed, and what is left of them.
-use mathlib.Core.Path.{sym, ◌∙◌}
-use mathlib.Core.List.{List}
-use Prim.Native.Nat.{ℕ}
-use native.Mathlib.Omega.{arith}
-use Rattle.descriptor.specs.inner.Standing.{Stands, standing}
+use Rattle.std.proofs.lemmas.Result.{err_from_is_err_and}
+use Rattle.descriptor.specs.inner.Standing.{standing}
 use Rattle.flattened.specs.inner.Order.{order_of}
-use Rattle.flattened.specs.inner.Types.{type_at, Solid}
+use Rattle.flattened.specs.inner.Types.{type_at}
 use Rattle.flattened.proofs.Types.{standing-solid, type-read}
-use Rattle.walking.proofs.Passing.{front-refused, front-sized, front-within, front-left}
+use Rattle.walking.proofs.Passing.{front-refused, front-sized, front-lies, front-left}
 use Rattle.walking.proofs.arrays.scalar_front.Goals as goal
 
--- every token of a type that stands takes at least one byte
-stands-solid : (d : List ℕ) (p : ℕ) → Stands d p → Solid (type_at d p)
-stands-solid d p here = standing-solid d (type_at d p) p _ (type-read (standing d p) here.is)
-
-pub size_words-sizes-requires : goal.size_words-sizes-requires
-size_words-sizes-requires c = (c.requires.le_dims.1, c.requires.data_at.inside)
-
-pub pass_scalars-passed-requires : goal.pass_scalars-passed-requires
-pass_scalars-passed-requires c =
+pub returns-in_err-sizes : goal.returns-in_err-sizes
+returns-in_err-sizes c =
     let a = c.args in
-    let t = type_at a.d.now a.p in
-    let solid = stands-solid a.d.now a.p c.requires.stands in
-    let sized = sym c.in-Count.is ∙ c.size_words-sizes.ensures in
-    record { stands = c.requires.stands; w_value = c.requires.w_value; data_at = record { inside = (front-sized (order_of a.o) a.dims t a.s.now a.from.at solid c.requires.data_at.short _ _ sized).inside; short = c.requires.data_at.short } }
+    let p = err_from_is_err_and c.from_residual.result c.from_residual.ensures.1 in
+    rw (p.1, p.2) (front-refused (order_of a.o) a.dims a.s.now a.from.at _ _ c.in_err-sizes.ensures)
+
+pub pass_scalars-passed-requires-clause-data_at : goal.pass_scalars-passed-requires-clause-data_at
+pass_scalars-passed-requires-clause-data_at c =
+    let a = c.args in
+    record { inside = (front-sized (order_of a.o) a.dims a.s.now a.from.at _ c.in_ok-sizes.ensures).inside; short = c.requires.data_at.short }
 
 pub left_after-requires : goal.left_after-requires
 left_after-requires c =
     let a = c.args in
     let t = type_at a.d.now a.p in
-    let solid = stands-solid a.d.now a.p c.requires.stands in
-    let sized = sym c.in-Count.is ∙ c.size_words-sizes.ensures in
-    let within = front-within (order_of a.o) a.dims t a.s.now a.from.at solid c.requires.data_at.short _ _ sized _ c.pass_scalars-passed.ensures in
-    (c.pass_scalars-passed.ensures.most, omega (arith, within.inside, c.requires.data_at.short), omega (arith, within.tokens, within.inside, c.requires.data_at.short))
+    let solid = standing-solid a.d.now t a.p _ (type-read (standing a.d.now a.p) c.requires.stands.is) in
+    front-lies (order_of a.o) a.dims a.s.now a.from.at _ c.in_ok-sizes.ensures t solid c.requires.data_at.short c.pass_scalars-passed.ensures
 
-pub returns-in-Refused : goal.returns-in-Refused
-returns-in-Refused c =
-    let a = c.args in
-    front-refused (order_of a.o) a.dims _ a.s.now a.from.at _ _ (sym c.in-Refused.is ∙ c.size_words-sizes.ensures)
-
-pub returns-in-Count : goal.returns-in-Count
-returns-in-Count c =
+pub returns : goal.returns
+returns c =
     let a = c.args in
     let t = type_at a.d.now a.p in
-    let solid = stands-solid a.d.now a.p c.requires.stands in
-    let sized = sym c.in-Count.is ∙ c.size_words-sizes.ensures in
-    front-left (order_of a.o) a.dims t a.s.now a.from.at solid c.requires.data_at.short _ _ sized _ c.pass_scalars-passed.ensures c.requires.le_dims.0 _ c.left_after.ensures
+    let solid = standing-solid a.d.now t a.p _ (type-read (standing a.d.now a.p) c.requires.stands.is) in
+    rw c.left_after.ensures
+    (front-left (order_of a.o) a.dims a.s.now a.from.at _ c.in_ok-sizes.ensures t solid c.requires.data_at.short c.pass_scalars-passed.ensures c.requires.dims.0)
