@@ -2,22 +2,23 @@
 use mathlib.Core.Path.{◌≡◌, refl, sym, ap, ap₂, subst, ◌∙◌}
 use mathlib.Core.Bool.{Bool, true, false, cond}
 use mathlib.Core.List.{List}
+use Rattle.std.specs.Prelude.{None, Some}
 use Prim.Native.Nat.{ℕ, zero, suc, ◌+◌, ◌-◌, ◌^◌, ◌≤◌, ◌<◌}
 use native.Mathlib.Numerals.{add-one}
 use native.Mathlib.Omega.{arith}
 use borrow.Author.Tests.{eq-eqb, eqb-true, eqb-false, lt-ltb, le-ltb}
+use Rattle.std.proofs.Common.{below_more}
 use lib.Dec.{eqb}
-use lib.ListN.{length, get_or, set, take, replicate, length-set, get_or-replicate}
-use lib.Seq.{length-slice, get_or-drop, get_or-take, get_or-set_same, get_or-set_other}
+use lib.ListN.{length, get_or, set, replicate, length-set, get_or-replicate}
+use lib.Seq.{get_or-set_same, get_or-set_other}
 use Rattle.number.specs.Endian.{be}
-use Rattle.number.proofs.Inverse.{be-same}
 use Rattle.descriptor.specs.Tree.{Name, unnamed, named}
 use Rattle.descriptor.proofs.Steps.{impossible}
 use Rattle.canonical.proofs.Same.{chars-same}
-use Rattle.members.specs.inner.Names.{chars_at, named_at, has_chars, NameFits}
-use Rattle.members.specs.inner.Chains.{spread, ends, mark_of, has_mark, last_of, Unchained, Linked, Chained, Marked}
-use Rattle.members.proofs.Filled.{each_more}
-use Rattle.members.proofs.Single.{named-at}
+use Rattle.members.specs.declared.roster.Roster.{Roster}
+use Rattle.members.specs.declared.chains.Chains.{Chains}
+use Rattle.members.specs.inner.Names.{named_at, has_chars}
+use Rattle.members.specs.inner.Chains.{spread, ends, mark_of, has_mark, last_of, member, Unchained, Linked, Chained, Marked}
 
 -- few bytes are a small number
 pub few_bytes : (n : ℕ) → n < 4 → 256 ^ n < 2 ^ 32
@@ -27,65 +28,28 @@ few_bytes (suc (suc zero)) h = omega arith
 few_bytes (suc (suc (suc zero))) h = omega arith
 few_bytes (suc (suc (suc (suc n)))) h = absurd (omega arith)
 
--- the mark of the name at x
-module _ (d : List ℕ) (x : ℕ) (some : 0 < x) (fits : NameFits d x) where
-  abbrev size : ℕ
-  size = get_or d (x - 1) 0
+-- the mark of a name
+module _ (x : List ℕ) where
+  -- from all characters
+  pub mark-short : length x < 4 → spread (be x 0 (length x)) (be x 0 (length x)) ≡ mark_of x
+  unfolding mark_of ends
+  mark-short h =
+      let least : ends (length x) ≡ length x = ap (λ (b : Bool). cond b (length x) 4) (lt-ltb (length x) 4 h) in
+      let none : length x - ends (length x) ≡ 0 = omega (arith, least) in
+      ap₂ spread (ap (be x 0) (sym least)) (ap₂ (λ (i n : ℕ). be x i n) (sym none) (sym least))
 
-  pub chars-long : length (chars_at d x) ≡ size
-  unfolding chars_at
-  chars-long = length-slice x (x + size) d (fits.within some) ∙ (let e : x + size - x ≡ size = omega arith in e)
-
-  -- a number in it stands in the descriptor
-  chars-word : (i n : ℕ) → i + n ≤ size → be (chars_at d x) i n ≡ be d (x + i) n
-  unfolding chars_at
-  chars-word i n h = be-same (chars_at d x) i d (x + i) n (λ k l.
-      let same : x + (i + k) ≡ x + i + k = omega arith in
-      get_or-drop x (take (x + size) d) (i + k) 0
-      ∙ get_or-take (x + size) d (x + (i + k)) 0 (omega arith)
-      ∙ ap (λ (p : ℕ). get_or d p 0) same)
-
-  module _ (n : ℕ) (en : n ≡ size) where
-    -- from all characters
-    pub mark-short : n < 4 → spread (be d x n) (be d x n) ≡ mark_of (chars_at d x)
-    unfolding mark_of ends
-    mark-short h =
-        let long : length (chars_at d x) ≡ n = chars-long ∙ sym en in
-        let least : ends (length (chars_at d x)) ≡ n = ap ends long ∙ ap (λ (b : Bool). cond b n 4) (lt-ltb n 4 h) in
-        let none : length (chars_at d x) - ends (length (chars_at d x)) ≡ 0 = omega (arith, long, least) in
-        let whole : be d x n ≡ be (chars_at d x) 0 n = ap (λ (p : ℕ). be d p n) (let z : x ≡ x + 0 = omega arith in z) ∙ sym (chars-word 0 n (omega arith)) in
-        ap₂ spread (whole ∙ ap (be (chars_at d x) 0) (sym least)) (whole ∙ ap₂ (λ (i m : ℕ). be (chars_at d x) i m) (sym none) (sym least))
-
-    -- from those at either end
-    pub mark-long : 4 ≤ n → spread (be d x 4) (be d (x + n - 4) 4) ≡ mark_of (chars_at d x)
-    unfolding mark_of ends
-    mark-long h =
-        let long : length (chars_at d x) ≡ n = chars-long ∙ sym en in
-        let four : ends (length (chars_at d x)) ≡ 4 = ap ends long ∙ ap (λ (b : Bool). cond b n 4) (le-ltb n 4 h) in
-        let last : length (chars_at d x) - ends (length (chars_at d x)) ≡ n - 4 = omega (arith, long, four) in
-        let fore : be d x 4 ≡ be (chars_at d x) 0 4 = ap (λ (p : ℕ). be d p 4) (let z : x ≡ x + 0 = omega arith in z) ∙ sym (chars-word 0 4 (omega arith)) in
-        let aft : be d (x + n - 4) 4 ≡ be (chars_at d x) (n - 4) 4 =
-        ap (λ (p : ℕ). be d p 4) (let z : x + n - 4 ≡ x + (n - 4) = omega arith in z) ∙ sym (chars-word (n - 4) 4 (omega arith)) in
-        ap₂ spread (fore ∙ ap (be (chars_at d x) 0) (sym four)) (aft ∙ ap₂ (λ (i m : ℕ). be (chars_at d x) i m) (sym last) (sym four))
+  -- from those at either end
+  pub mark-long : 4 ≤ length x → spread (be x 0 4) (be x (length x - 4) 4) ≡ mark_of x
+  unfolding mark_of ends
+  mark-long h =
+      let four : ends (length x) ≡ 4 = ap (λ (b : Bool). cond b (length x) 4) (le-ltb (length x) 4 h) in
+      ap₂ spread (ap (be x 0) (sym four)) (ap (λ (n : ℕ). be x (length x - n) n) (sym four))
 
 -- names that are the same have one mark
 pub same-mark : (x : List ℕ) (n : Name) → has_chars x n ≡ true → has_mark (mark_of x) n ≡ true
 unfolding has_chars has_mark
 same-mark x unnamed h = impossible h
 same-mark x (named y) h = eq-eqb (mark_of y) (mark_of x) (ap mark_of (sym (chars-same x y h)))
-
--- no name has no mark
-no-mark : (d : List ℕ) (m x : ℕ) → x ≡ 0 → has_mark m (named_at d x) ≡ false
-unfolding has_mark named_at
-no-mark d m x e = ap (λ (y : ℕ). has_mark m (named_at d y)) e
-
--- a name has its mark, and no other
-own-mark : (d : List ℕ) (m x : ℕ) → 0 < x → has_mark m (named_at d x) ≡ eqb (mark_of (chars_at d x)) m
-unfolding has_mark
-own-mark d m x some = ap (has_mark m) (named-at d x some)
-
-pub own-marked : (d : List ℕ) (x : ℕ) → 0 < x → has_mark (mark_of (chars_at d x)) (named_at d x) ≡ true
-own-marked d x some = own-mark d (mark_of (chars_at d x)) x some ∙ eq-eqb (mark_of (chars_at d x)) _ refl
 
 -- the last member that passes a test
 module _ (d names : List ℕ) where
@@ -113,17 +77,17 @@ module _ (d names : List ℕ) where
         go false before = omega arith
 
     -- which passes it
-    pub last-is : (n : ℕ) → 0 < last_of test d names n → test (named_at d (get_or names (last_of test d names n - 1) 0)) ≡ true
+    pub last-is : (n i : ℕ) → member (last_of test d names n) ≡ Some i → test (named_at d (get_or names i 0)) ≡ true
     unfolding last_of
-    last-is zero h = absurd (omega arith)
-    last-is (suc i) h = go (test (named_at d (get_or names i 0))) refl (λ some. last-is i some) h
+    last-is zero i e = absurd (cc)
+    last-is (suc n) i e = go (test (named_at d (get_or names n 0))) refl (last-is n i) e
       where
-        go : (b : Bool) → test (named_at d (get_or names i 0)) ≡ b
-            → (0 < last_of test d names i → test (named_at d (get_or names (last_of test d names i - 1) 0)) ≡ true)
-            → 0 < cond b (suc i) (last_of test d names i)
-            → test (named_at d (get_or names (cond b (suc i) (last_of test d names i) - 1) 0)) ≡ true
-        go true e before some = ap (λ (j : ℕ). test (named_at d (get_or names j 0))) (let z : suc i - 1 ≡ i = omega arith in z) ∙ e
-        go false e before some = before some
+        go : (b : Bool) → test (named_at d (get_or names n 0)) ≡ b
+            → (member (last_of test d names n) ≡ Some i → test (named_at d (get_or names i 0)) ≡ true)
+            → member (cond b (suc n) (last_of test d names n)) ≡ Some i
+            → test (named_at d (get_or names i 0)) ≡ true
+        go true passes before is = let same : n ≡ i = cc in subst (λ (j : ℕ). test (named_at d (get_or names j 0)) ≡ true) same passes
+        go false passes before is = before is
 
   -- Where one test implies another, the last that passes the one is found among those up to the last that passes the other.
   last_within : (test wider : Name → Bool) → ((m : Name) → test m ≡ true → wider m ≡ true)
@@ -142,7 +106,7 @@ module _ (d names : List ℕ) where
       go true e before = refl
       go false e before = here (test (named_at d (get_or names i 0))) refl e ∙ before
 
--- The last of the first n members that has the name x is found from i on, which is none or has the mark of x.
+-- The last of the first n members that has the name x is found from the entry i on, which names none or has the mark of x.
 pub record Follows (d names : List ℕ) (k n : ℕ) (x : List ℕ) (i : ℕ) : Type 0 where
   pub here : Marked d names k (mark_of x) i
   pub same : last_of (has_chars x) d names n ≡ last_of (has_chars x) d names i
@@ -155,7 +119,7 @@ module _ (d names : List ℕ) (k : ℕ) (x : List ℕ) where
       record {
         here = record {
           most = omega (arith, e, last-most d names mark n);
-          is = λ some. ap (λ (j : ℕ). mark (named_at d (get_or names (j - 1) 0))) e ∙ last-is d names mark n (subst (λ (j : ℕ). 0 < j) e some);
+          is = λ j one. last-is d names mark n j (ap member (sym e) ∙ one);
         };
         same = last_within d names (has_chars x) mark (same-mark x) n ∙ ap (last_of (has_chars x) d names) (sym e);
       }
@@ -172,111 +136,123 @@ module _ (d names : List ℕ) (k : ℕ) (x : List ℕ) where
   follows-link links linked n h is i e = follows-mark n (omega arith) i (e ∙ linked.at n h (mark_of x) is)
 
 -- what the loop keeps, i of the members having been chained
-pub record ChainLoop (d names : List ℕ) (k i : ℕ) (heads links : List ℕ) : Type 0 where
-  pub most : i ≤ k
+pub record ChainLoop (d names : List ℕ) (i : ℕ) (heads links : List ℕ) : Type 0 where
   pub done : Chained d names i heads links
   pub wide : length heads ≡ 256
   pub long : length links ≡ 256
 
 -- new columns
-pub fresh-chains : Unchained (replicate 256 0) (replicate 256 0)
-fresh-chains = record { wide = refl; long = refl; none = λ m h. get_or-replicate 256 m 0 0 h }
+pub fresh-chains : Unchained (replicate 256 0)
+fresh-chains = record { none = λ m h. get_or-replicate 256 m 0 0 h }
 
-module _ (d names : List ℕ) (k : ℕ) where
-  pub chain-begin : (heads links : List ℕ) → Unchained heads links → ChainLoop d names k 0 heads links
+module _ (d names : List ℕ) where
+  pub chain-begin : (heads links : List ℕ) → Unchained heads → length heads ≡ 256 → length links ≡ 256 → ChainLoop d names 0 heads links
   unfolding last_of
-  chain-begin heads links none = record {
-    most = omega arith;
+  chain-begin heads links none wide long = record {
     done = record { last = none.none; linked = record { at = λ i h. absurd (omega arith) } };
-    wide = none.wide;
-    long = none.long;
+    wide = wide;
+    long = long;
   }
 
-  module _ (i : ℕ) (heads links : List ℕ) (l : ChainLoop d names k i heads links) where
-    module _ (more : i < k) (x : ℕ) (ex : x ≡ get_or names i 0) where
-      -- a member with no name
-      pub chain-unnamed : x ≡ 0 → ChainLoop d names k (i + 1) heads links
-      chain-unnamed none =
-          let off : (m : ℕ) → has_mark m (named_at d (get_or names i 0)) ≡ false = λ m. no-mark d m (get_or names i 0) (sym ex ∙ none) in
-          record {
-            most = omega arith;
-            done = record {
-              last = λ m h. l.done.last m h ∙ sym (last-before d names (has_mark m) i (off m));
-              linked = record {
-                at = each_more (λ j. (m : ℕ) → has_mark m (named_at d (get_or names j 0)) ≡ true → get_or links j 0 ≡ last_of (has_mark m) d names j) i
-                    l.done.linked.at (λ m is. impossible (sym (off m) ∙ is));
-              };
-            };
-            wide = l.wide;
-            long = l.long;
-          }
-
-      -- one with a name of the mark m
-      module _ (some : 0 < x) (m : ℕ) (em : m ≡ mark_of (chars_at d x)) (small : m < 256) (room : i < 256) where
-        marks : (n : ℕ) → has_mark n (named_at d (get_or names i 0)) ≡ eqb m n
-        marks n = ap (λ (y : ℕ). has_mark n (named_at d y)) (sym ex) ∙ own-mark d n x some ∙ ap (λ (v : ℕ). eqb v n) (sym em)
-
-        head-after : (n : ℕ) → n < 256 → (b : Bool) → eqb m n ≡ b → get_or (set heads m (i + 1)) n 0 ≡ last_of (has_mark n) d names (i + 1)
-        head-after n h true e =
-            ap (λ (v : ℕ). get_or (set heads m (i + 1)) v 0) (sym (eqb-true m n e))
-            ∙ get_or-set_same heads m (i + 1) 0 (omega (arith, l.wide))
-            ∙ sym (last-here d names (has_mark n) i (marks n ∙ e))
-        head-after n h false e =
-            get_or-set_other heads m n (i + 1) 0 (λ same. eqb-false m n e (sym same))
-            ∙ l.done.last n h
-            ∙ sym (last-before d names (has_mark n) i (marks n ∙ e))
-
-        pub chain-again : (v : ℕ) → v ≡ get_or heads m 0 → ChainLoop d names k (i + 1) (set heads m (i + 1)) (set links i v)
-        chain-again v ev = record {
-          most = omega arith;
+  module _ (i : ℕ) (heads links : List ℕ) (l : ChainLoop d names i heads links) where
+    -- a member with no name
+    pub chain-unnamed : named_at d (get_or names i 0) ≡ unnamed → ChainLoop d names (i + 1) heads links
+    unfolding has_mark
+    chain-unnamed none =
+        let off : (m : ℕ) → has_mark m (named_at d (get_or names i 0)) ≡ false = λ m. ap (has_mark m) none in
+        record {
           done = record {
-            last = λ n h. head-after n h (eqb m n) refl;
+            last = λ m h. l.done.last m h ∙ sym (last-before d names (has_mark m) i (off m));
             linked = record {
-              at = each_more (λ j. (n : ℕ) → has_mark n (named_at d (get_or names j 0)) ≡ true → get_or (set links i v) j 0 ≡ last_of (has_mark n) d names j) i
-                  (λ j h n is. get_or-set_other links i j v 0 (λ same. omega arith) ∙ l.done.linked.at j h n is)
-                  (λ n is.
-                  get_or-set_same links i v 0 (omega (arith, l.long))
-                  ∙ ev
-                  ∙ l.done.last m small
-                  ∙ ap (λ (y : ℕ). last_of (has_mark y) d names i) (eqb-true m n (sym (marks n) ∙ is)));
+              at = below_more (λ j. (m : ℕ) → has_mark m (named_at d (get_or names j 0)) ≡ true → get_or links j 0 ≡ last_of (has_mark m) d names j) i
+                  l.done.linked.at (λ m is. impossible (sym (off m) ∙ is));
             };
           };
-          wide = length-set heads m (i + 1) ∙ l.wide;
-          long = length-set links i v ∙ l.long;
+          wide = l.wide;
+          long = l.long;
         }
 
-    pub chain-done : k ≤ i → Chained d names k heads links
-    chain-done last = subst (λ (n : ℕ). Chained d names n heads links) (let e : i ≡ k = omega (arith, l.most) in e) l.done
+    -- one with a name of the mark m
+    module _ (x : List ℕ) (is : named_at d (get_or names i 0) ≡ named x) (m : ℕ) (em : m ≡ mark_of x) (small : m < 256) (room : i < 256) where
+      marks : (n : ℕ) → has_mark n (named_at d (get_or names i 0)) ≡ eqb m n
+      unfolding has_mark
+      marks n = ap (has_mark n) is ∙ ap (λ (v : ℕ). eqb v n) (sym em)
 
--- the search, at member i
-module _ (d names : List ℕ) (k from : ℕ) (x : List ℕ) (i : ℕ) (l : Follows d names k from x i) where
-  module _ (some : 0 < i) (z : ℕ) (ez : z ≡ get_or names (i - 1) 0) (r : Bool) (er : r ≡ has_chars x (named_at d z)) where
-    says : has_chars x (named_at d (get_or names (i - 1) 0)) ≡ r
-    says = sym (er ∙ ap (λ (y : ℕ). has_chars x (named_at d y)) ez)
+      head-after : (n : ℕ) → n < 256 → (b : Bool) → eqb m n ≡ b → get_or (set heads m (i + 1)) n 0 ≡ last_of (has_mark n) d names (i + 1)
+      head-after n h true e =
+          ap (λ (v : ℕ). get_or (set heads m (i + 1)) v 0) (sym (eqb-true m n e))
+          ∙ get_or-set_same heads m (i + 1) 0 (omega (arith, l.wide))
+          ∙ sym (last-here d names (has_mark n) i (marks n ∙ e))
+      head-after n h false e =
+          get_or-set_other heads m n (i + 1) 0 (λ same. eqb-false m n e (sym same))
+          ∙ l.done.last n h
+          ∙ sym (last-before d names (has_mark n) i (marks n ∙ e))
 
-    one : i - 1 + 1 ≡ i
-    one = omega arith
-
-    -- which has the name
-    pub follow-found : r ≡ true → i ≡ last_of (has_chars x) d names from
-    follow-found is =
-        sym (l.same ∙ ap (last_of (has_chars x) d names) (sym one) ∙ last-here d names (has_chars x) (i - 1) (says ∙ is) ∙ one)
-
-    -- or has another
-    module _ (off : r ≡ false) (links : List ℕ) (linked : Linked d names k links) (next : ℕ) (en : next ≡ get_or links (i - 1) 0) where
-      onward : Follows d names k (i - 1) x next
-      onward = follows-link d names k x links linked (i - 1) (omega (arith, l.here.most)) (l.here.is some) next en
-
-      pub follow-again : Follows d names k from x next
-      follow-again = record {
-        here = onward.here;
-        same = l.same ∙ ap (last_of (has_chars x) d names) (sym one) ∙ last-before d names (has_chars x) (i - 1) (says ∙ off) ∙ onward.same;
+      pub chain-again : ChainLoop d names (i + 1) (set heads m (i + 1)) (set links i (get_or heads m 0))
+      chain-again = record {
+        done = record {
+          last = λ n h. head-after n h (eqb m n) refl;
+          linked = record {
+            at = below_more (λ j. (n : ℕ) → has_mark n (named_at d (get_or names j 0)) ≡ true → get_or (set links i (get_or heads m 0)) j 0 ≡ last_of (has_mark n) d names j) i
+                (λ j h n marked. get_or-set_other links i j (get_or heads m 0) 0 (λ same. omega arith) ∙ l.done.linked.at j h n marked)
+                (λ n marked.
+                get_or-set_same links i (get_or heads m 0) 0 (omega (arith, l.long))
+                ∙ l.done.last m small
+                ∙ ap (λ (y : ℕ). last_of (has_mark y) d names i) (eqb-true m n (sym (marks n) ∙ marked)));
+          };
+        };
+        wide = length-set heads m (i + 1) ∙ l.wide;
+        long = length-set links i (get_or heads m 0) ∙ l.long;
       }
 
-      pub follow-less : next < i
-      follow-less =
-          omega (arith, en, linked.at (i - 1) (omega (arith, l.here.most)) (mark_of x) (l.here.is some), last-most d names (has_mark (mark_of x)) (i - 1))
+-- chains by the roster that they are of
+pub chained-of : (c : Chains) (w : Roster) → c.roster ≡ w → Chained w.d.now w.names.now w.count c.heads.now c.links.now
+chained-of c w e = subst (λ (r : Roster). Chained r.d.now r.names.now r.count c.heads.now c.links.now) e c.chained
 
-  pub follow-none : i ≡ 0 → 0 ≡ last_of (has_chars x) d names from
+-- an entry that names a member
+pub entry-is : (entry i : ℕ) → member entry ≡ Some i → entry ≡ i + 1
+entry-is zero i e = absurd (cc)
+entry-is (suc j) i e = let same : j ≡ i = cc in omega arith
+
+-- the search, at an entry
+module _ (d names : List ℕ) (k from : ℕ) (x : List ℕ) (entry : ℕ) (l : Follows d names k from x entry) where
+  -- which names member i
+  module _ (i : ℕ) (ei : member entry ≡ Some i) where
+    there : last_of (has_chars x) d names from ≡ last_of (has_chars x) d names (i + 1)
+    there = l.same ∙ ap (last_of (has_chars x) d names) (entry-is entry i ei)
+
+    -- which has the name
+    pub follow-found : has_chars x (named_at d (get_or names i 0)) ≡ true → Some i ≡ member (last_of (has_chars x) d names from)
+    follow-found is = sym (ap member (there ∙ last-here d names (has_chars x) i is ∙ add-one i))
+
+    -- or has another
+    module _ (off : has_chars x (named_at d (get_or names i 0)) ≡ false) (links : List ℕ) (linked : Linked d names k links) where
+      marked : has_mark (mark_of x) (named_at d (get_or names i 0)) ≡ true
+      marked = l.here.is i ei
+
+      within : i < k
+      within = omega (arith, l.here.most, entry-is entry i ei)
+
+      onward : Follows d names k i x (get_or links i 0)
+      onward = follows-link d names k x links linked i within marked _ refl
+
+      pub follow-again : Follows d names k from x (get_or links i 0)
+      follow-again = record { here = onward.here; same = there ∙ last-before d names (has_chars x) i off ∙ onward.same }
+
+      pub follow-less : get_or links i 0 < entry
+      follow-less = omega (arith, entry-is entry i ei, linked.at i within (mark_of x) marked, last-most d names (has_mark (mark_of x)) i)
+
+  -- which names none
+  pub follow-none : member entry ≡ None → None ≡ member (last_of (has_chars x) d names from)
   unfolding last_of
-  follow-none e = sym (l.same ∙ ap (last_of (has_chars x) d names) e)
+  follow-none none = rw l.same (go entry none)
+    where
+      go : (e : ℕ) → member e ≡ None → None ≡ member (last_of (has_chars x) d names e)
+      go zero n = refl
+      go (suc i) n = absurd (cc)
+
+-- what marks find their answers with
+pub ruleset mark_laws = (few_bytes, mark-short, mark-long)
+
+-- what chains find their answers with
+pub ruleset chain_laws = (chain-begin, chain-unnamed, chain-again, follow-found, follow-again, follow-less, follow-none)

@@ -8,6 +8,7 @@ use native.Mathlib.Omega.{arith}
 use Rattle.descriptor.specs.Header.{size_in}
 use Rattle.descriptor.specs.Tree.{nil, cons, forest_size, tree_size}
 use Rattle.descriptor.specs.inner.Standing.{standing_row, next_of, forest_of}
+use Rattle.descriptor.proofs.Bodies.{header-room}
 use Rattle.descriptor.proofs.Standing.{row-none, row_ends}
 use Rattle.flattened.specs.inner.Types.{types_at, RowStands}
 use Rattle.flattened.proofs.Types.{row_read-is, RowTurn, row-turn}
@@ -69,3 +70,6 @@ module _ (d : List ℕ) (k p left : ℕ) (row : RowStands d k p left) where
   row_last =
       let none : forest_size (types_at d (k - k) (place_from d p k)) ≡ 0 = ap forest_size (no-types d (k - k) (place_from d p k) (omega arith)) in
       omega (arith, row_next d k p left row, sizes-left k (omega arith), none)
+
+-- what the end of a row finds its answers with
+pub ruleset row_laws = (header-room, turn_at, place-more, row_last)

@@ -4,12 +4,13 @@ use mathlib.Core.List.{List}
 use Prim.Native.Nat.{ℕ, ◌+◌, ◌≤◌, ◌<◌}
 use native.Mathlib.Omega.{arith}
 use lib.ListN.{length, set, length-set}
+use Rattle.descriptor.proofs.Bodies.{header-room}
 use Rattle.descriptor.specs.Limits.{depth_limit}
 use Rattle.descriptor.specs.Header.{size_in}
 use Rattle.descriptor.specs.Tree.{Tree, node}
 use Rattle.descriptor.specs.Table.{row_of}
 use Rattle.flattened.specs.inner.Types.{type_at}
-use Rattle.members.specs.inner.Members.{Inner, Members, place_from, name_from, type_from, Column}
+use Rattle.members.specs.inner.Members.{Inner, Members, Listed, top_at, place_from, name_from, type_from, Column}
 use Rattle.members.specs.inner.Names.{name_of, named_at, NameFits, NamesLie}
 use Rattle.members.proofs.Filled.{column-none, column-more}
 use Rattle.members.proofs.InRow.{place-more, turn_at}
@@ -22,7 +23,6 @@ row-start p (node c b f m) = refl
 
 -- what the loop keeps, i of the k members having been listed
 pub record ListLoop (d : List ℕ) (k start : ℕ) (places names : List ℕ) (p i : ℕ) : Type 0 where
-  pub most : i ≤ k
   pub place : p ≡ place_from d start i
   pub standing : Column (place_from d start) i places
   pub naming : Column (name_from d start) i names
@@ -57,7 +57,7 @@ module _ (d : List ℕ) (k start : ℕ) (all : Members d k start) where
   pub list-begin : (places names : List ℕ) → length places ≡ 256 → length names ≡ 256 → ListLoop d k start places names start 0
   unfolding place_from
   list-begin places names wide long =
-      record { most = omega arith; place = refl; standing = column-none _ places; naming = column-none _ names; wide = wide; long = long }
+      record { place = refl; standing = column-none _ places; naming = column-none _ names; wide = wide; long = long }
 
   module _ (places names : List ℕ) (p i : ℕ) (l : ListLoop d k start places names p i) where
     module _ (more : i < k) where
@@ -71,7 +71,6 @@ module _ (d : List ℕ) (k start : ℕ) (all : Members d k start) where
           → ListLoop d k start (set places i p) (set names i name) q (i + 1)
       unfolding name_from
       list-again name en q eq room = record {
-        most = omega arith;
         place = eq ∙ ap (λ (x : ℕ). x + size_in d x) l.place ∙ sym (place-more d start i);
         standing = column-more (place_from d start) i p places l.standing (omega (arith, l.wide)) l.place;
         naming =
@@ -81,13 +80,9 @@ module _ (d : List ℕ) (k start : ℕ) (all : Members d k start) where
         long = length-set names i name ∙ l.long;
       }
 
-    -- all are listed
-    module _ (done : k ≤ i) where
-      last : i ≡ k
-      last = omega (arith, l.most)
+-- the names that are listed lie in the bytes
+pub listed-lie : (d : List ℕ) (k : ℕ) (places names : List ℕ) → Listed d k places names → NamesLie d names k
+listed-lie d k places names listed = names-lie d k (top_at d) listed.members names listed.naming
 
-      pub list-places : Column (place_from d start) k places
-      list-places = subst (λ (n : ℕ). Column (place_from d start) n places) last l.standing
-
-      pub list-names : Column (name_from d start) k names
-      list-names = subst (λ (n : ℕ). Column (name_from d start) n names) last l.naming
+-- what a roster finds its answers with
+pub ruleset roster_laws = (header-room, list-begin, list-inner, list-size, list-again, listed-lie, member-inner)

@@ -1,31 +1,44 @@
--- Two names by their places: what makes them the same. Rests on the laws of a row's name and of characters that compare equal.
-use mathlib.Core.Path.{◌≡◌, sym, ap, ◌∙◌}
-use mathlib.Core.Bool.{Bool, true, false}
-use mathlib.Core.List.{List}
-use Prim.Native.Nat.{ℕ, ◌+◌, ◌-◌, ◌<◌}
-use lib.ListN.{get_or, take, drop}
-use lib.Seq.{slice}
-use Rattle.canonical.specs.Equality.{same_chars}
-use Rattle.canonical.proofs.Lists.{bool_same, part_slice}
-use Rattle.canonical.proofs.Same.{chars-same, chars-refl}
+-- A name that was read, compared with characters. Rests on the comparison of characters.
+use mathlib.Core.Path.{◌≡◌, refl, sym, ap, ◌∙◌}
+use mathlib.Core.Bool.{true, ◌&&◌}
+use mathlib.Core.List.{List, [], ◌∷◌}
+use Prim.Native.Nat.{ℕ, ◌<◌}
+use borrow.Author.Tests.{eq-eqb, eqb-true}
+use denote.Bor.{Bor}
+use lib.Dec.{eqb}
+use lib.Pointwise.{pointwise}
+use Rattle.std.specs.Option.{MatchOption, option_eq}
+use Rattle.std.specs.Prelude.{Option, None, Some, is_some}
+use Rattle.descriptor.specs.Tree.{Name, unnamed, named}
+use Rattle.canonical.specs.Equality.{same_list, same_chars}
+use Rattle.canonical.proofs.Lists.{bool_same}
 use Rattle.members.specs.inner.Names.{chars_at, named_at, has_chars}
 use Rattle.members.proofs.Single.{named-at}
 
--- no name has no characters
-pub none-same : (a b : List ℕ) (x y : ℕ) → x ≡ 0 → false ≡ has_chars (chars_at b y) (named_at a x)
-unfolding named_at has_chars
-none-same a b x y e = ap (λ (z : ℕ). has_chars (chars_at b y) (named_at a z)) (sym e)
+eqb-turned : (x y : ℕ) → eqb x y ≡ eqb y x
+eqb-turned x y = bool_same (eqb x y) (eqb y x) (λ h. eq-eqb y x (sym (eqb-true x y h))) (λ h. eq-eqb x y (sym (eqb-true y x h)))
 
--- the same parts are the same characters
-pub parts_same : (a b : List ℕ) (x y first second : ℕ) (r : Bool) → 0 < x → first ≡ x + get_or a (x - 1) 0 → second ≡ y + get_or b (y - 1) 0
-    → (r ≡ true → take (second - y) (drop y b) ≡ take (first - x) (drop x a)) → (take (second - y) (drop y b) ≡ take (first - x) (drop x a) → r ≡ true)
-    → r ≡ has_chars (chars_at b y) (named_at a x)
-unfolding has_chars chars_at
-parts_same a b x y first second r some ef es holds back =
-    let ex : take (first - x) (drop x a) ≡ slice x (x + get_or a (x - 1) 0) a = part_slice x first a ∙ ap (λ (n : ℕ). slice x n a) ef in
-    let ey : take (second - y) (drop y b) ≡ slice y (y + get_or b (y - 1) 0) b = part_slice y second b ∙ ap (λ (n : ℕ). slice y n b) es in
-    let u = chars_at a x in
-    let v = chars_at b y in
-    bool_same r (same_chars v u) (λ e. ap (λ (l : List ℕ). same_chars v l) (sym (sym ey ∙ holds e ∙ ex)) ∙ chars-refl v)
-    (λ e. back (ey ∙ chars-same v u e ∙ sym ex))
-    ∙ ap (has_chars v) (sym (named-at a x some))
+pointwise-same : (x y : List ℕ) → pointwise eqb x y ≡ same_chars y x
+unfolding same_list
+pointwise-same [] [] = refl
+pointwise-same [] (y ∷ ys) = refl
+pointwise-same (x ∷ xs) [] = refl
+pointwise-same (x ∷ xs) (y ∷ ys) = λ i. eqb-turned x y i && pointwise-same xs ys i
+
+-- whether it has these characters
+pub name-compared : (o : Option (Bor (List ℕ))) (m : Name) (x : Bor (List ℕ)) → MatchOption o (m ≡ unnamed) (λ n. m ≡ named n.now)
+    → has_chars x.now m ≡ option_eq (λ a b. pointwise eqb a.now b.now) o (Some x)
+unfolding has_chars
+name-compared None m x is = ap (has_chars x.now) is
+name-compared (Some n) m x is = ap (has_chars x.now) is ∙ sym (pointwise-same n.now x.now)
+
+-- and whether there is one
+pub name-some : (o : Option (Bor (List ℕ))) (d : List ℕ) (x : ℕ) → 0 < x → MatchOption o (named_at d x ≡ unnamed) (λ n. named_at d x ≡ named n.now)
+    → is_some o ≡ true
+name-some (Some n) d x some is = refl
+name-some None d x some is =
+    let both : named (chars_at d x) ≡ unnamed = sym (named-at d x some) ∙ is in
+    absurd (cc)
+
+-- what the comparison of names finds its answer with
+pub ruleset same_laws = (name-compared)

@@ -19,7 +19,7 @@ use Rattle.descriptor.specs.inner.Standing.{standing, standing_row, is_read, nex
 use Rattle.descriptor.specs.inner.Filling.{row_read, RowPre}
 use Rattle.descriptor.specs.declared.answer.Row.{Row}
 use Rattle.descriptor.specs.declared.inside.Inside.{Inside}
-use Rattle.descriptor.proofs.Bodies.{Seen, seen}
+use Rattle.descriptor.proofs.Bodies.{Seen, seen, header-room}
 use Rattle.descriptor.proofs.Filling.{name-numbers, fields-count}
 use Rattle.descriptor.proofs.Outcomes.{Holds, found, holds_read, holds-cond, holds-require}
 use Rattle.descriptor.proofs.Standing.{standing-ends}
@@ -156,3 +156,6 @@ module _ (d : List ℕ) (p : ℕ) (inner : Inner d p) where
   -- and lies in the bytes
   pub single-within : NameFits d (row_of p 2 (type_at d p)).name_place
   single-within = subst (λ (x : ℕ). NameFits d x) (sym row_same) (record { within = placed.within; short = inner.short })
+
+-- what the row of a member finds its answers with
+pub ruleset single_laws = (header-room, single-size, single-row, single-fits, single-is, single-unnamed, single-named)

@@ -1,14 +1,24 @@
 // Members by the marks of their names: those with one mark are chained, so that a search passes all others by.
 ghost use Rattle.std.specs.Prelude.{◌≡◌, ◌<◌, ◌^◌};
 ghost use Rattle.number.specs.inner.Post.{Bounded};
-ghost use Rattle.members.specs.inner.Names.{NameFits, NamesLie, chars_at, has_chars};
-ghost use Rattle.members.specs.inner.Chains.{spread, mark_of, last_of, Unchained, Linked, Chained, Marked};
+ghost use Rattle.members.specs.inner.Names.{has_chars};
+ghost use Rattle.members.specs.inner.Chains.{spread, mark_of, last_of, member, Unchained, Chained, Marked};
 
-use super::columns::wide;
-use super::names::same_name;
+use super::roster::Roster;
 use number::endian::{be32, read_be};
 
+// The members of a roster, chained. In `heads` is the last of each mark, in `links` the one of the same mark before each member, both counted
+// from 1, 0 being none.
+#[derive(Clone, Copy)]
+pub struct Chains<'a> {
+    pub roster: Roster<'a>,
+    pub heads: &'a [u16; 256],
+    pub links: &'a [u16; 256],
+    ghost chained: { Chained roster.d.now roster.names.now roster.count heads.now links.now },
+}
+
 // A number below 256 to which each byte of both words gives.
+#[tactic(auto, unfolding(crate::specs::inner::Chains::spread))]
 fn spread(first: usize, last: usize) -> usize
     requires { (first < 2 ^ 32) × (last < 2 ^ 32) }
     ensures { Bounded result (spread first last) 256 }
@@ -16,61 +26,64 @@ fn spread(first: usize, last: usize) -> usize
     (first * 1393620033 + last * 1759876303) / 16777216 % 256
 }
 
-// The mark of the name at x: from its first and its last four characters, from all where there are fewer.
-pub fn mark(d: &[u8], x: usize) -> usize
-    requires { (0 < x) × NameFits d.now x }
-    ensures { Bounded result (mark_of (chars_at d.now x)) 256 }
+// The mark of a name: from its first and its last four characters, from all where there are fewer.
+#[tactic(auto, using(crate::proofs::Chaining::mark_laws))]
+pub fn mark(name: &[u8]) -> usize
+    ensures { Bounded result (mark_of name.now) 256 }
 {
-    let n = number::endian::wide(d[x - 1]);
+    let n = name.len();
     if n < 4 {
-        let all = read_be(d, x, n) as usize;
+        let all = read_be(name, 0, n) as usize;
         return spread(all, all);
     }
-    spread(be32(d, x), be32(d, x + n - 4))
+    spread(be32(name, 0), be32(name, n - 4))
 }
 
-// Chains the k members whose names' places are given. To `heads` goes the last of each mark, to `links` the one of the same mark before each
-// member, both counted from 1, 0 being none.
-pub fn chain(d: &[u8], k: usize, names: &[u16; 256], heads: &mut [u16; 256], links: &mut [u16; 256])
-    requires names_lie { NamesLie d.now names.now k }
-    requires unchained { Unchained heads.old links.old }
-    ensures { Chained d.now names.now k heads.new links.new }
+// The member that an entry of these columns names.
+fn member(entry: u16) -> Option<usize>
+    ensures { result ≡ member entry }
 {
-    let mut i = 0;
-    while i < k {
-        let x = wide(names[i]);
-        if x != 0 {
-            let m = mark(d, x);
-            links[i] = heads[m];
-            heads[m] = (i + 1) as u16;
-        }
-        i += 1;
-    }
+    usize::from(entry).checked_sub(1)
 }
 
-// The last of the members up to `from`, a member with the mark of the name at y of r, that has this name. Members are counted from 1, 0 being
-// none.
-pub fn last_namesake(
-    d: &[u8],
-    k: usize,
-    names: &[u16; 256],
-    links: &[u16; 256],
-    from: usize,
-    r: &[u8],
-    y: usize,
-) -> usize
-    requires names_lie { NamesLie d.now names.now k }
-    requires linked { Linked d.now names.now k links.now }
-    requires y_nonzero { (0 < y) × NameFits r.now y }
-    requires marked { Marked d.now names.now k (mark_of (chars_at r.now y)) from }
-    ensures { result ≡ last_of (has_chars (chars_at r.now y)) d.now names.now from }
-{
-    let mut i = from;
-    while 0 < i {
-        if same_name(d, wide(names[i - 1]), r, y) {
-            return i;
+impl<'a> Chains<'a> {
+    // Chains the members of a roster, in columns of zeros.
+    #[tactic(auto, using(crate::proofs::Chaining::chain_laws))]
+    pub fn of(
+        roster: Roster<'a>,
+        heads: &'a mut [u16; 256],
+        links: &'a mut [u16; 256],
+    ) -> Chains<'a>
+        requires { Unchained heads.old }
+        ensures { result.roster ≡ roster.entry }
+    {
+        for i in 0..roster.count {
+            if let Some(name) = roster.name(i) {
+                let m = mark(name);
+                links[i] = heads[m];
+                heads[m] = (i + 1) as u16;
+            }
         }
-        i = wide(links[i - 1]);
+        Chains {
+            roster,
+            heads,
+            links,
+        }
     }
-    0
+
+    // The last member that has this name, of those up to the one that `from` names, which has its mark.
+    #[tactic(auto, using(crate::proofs::Chaining::chain_laws))]
+    pub fn last_namesake(&self, from: u16, name: &[u8]) -> Option<usize>
+        requires { Marked self.now.roster.d.now self.now.roster.names.now self.now.roster.count (mark_of name.now) from }
+        ensures { result ≡ member (last_of (has_chars name.now) self.now.roster.d.now self.now.roster.names.now from) }
+    {
+        let mut entry = from;
+        while let Some(i) = member(entry) {
+            if self.roster.is_named(i, name) {
+                return Some(i);
+            }
+            entry = self.links[i];
+        }
+        None
+    }
 }

@@ -2,7 +2,7 @@
 #![tactic(auto)]
 
 pub mod chains;
-pub mod columns;
 pub mod joining;
 pub mod names;
+pub mod roster;
 pub mod rows;

@@ -1,17 +1,16 @@
 // Names by their places: "Names match by bytes".
-ghost use Rattle.std.specs.Prelude.{◌≡◌, ◌<◌};
-ghost use Rattle.members.specs.inner.Names.{NameFits, chars_at, named_at, has_chars};
+ghost use Rattle.std.specs.Prelude.{◌≡◌, MatchOption};
+ghost use Rattle.descriptor.specs.Tree.{unnamed, named};
+ghost use Rattle.members.specs.inner.Names.{NameFits, named_at};
 
-// Whether the name at x of a is the one at y of b: the lengths first, then the characters. Where x is 0 there is no name.
-pub fn same_name(a: &[u8], x: usize, b: &[u8], y: usize) -> bool
-    requires name_fits { NameFits a.now x }
-    requires y_nonzero { (0 < y) × NameFits b.now y }
-    ensures { result ≡ has_chars (chars_at b.now y) (named_at a.now x) }
+// The characters of the name at x of d, whose length stands before them; where x is 0 there is none.
+pub fn name_at(d: &[u8], x: usize) -> Option<&[u8]>
+    requires { NameFits d.now x }
+    ensures { MatchOption result (named_at d.now x ≡ unnamed) (λ name. named_at d.now x ≡ named name.now) }
 {
     if x == 0 {
-        return false;
+        return None;
     }
-    let first = x + number::endian::wide(a[x - 1]);
-    let second = y + number::endian::wide(b[y - 1]);
-    byte_runs::same(&b[y..second], &a[x..first])
+    let end = x + usize::from(d[x - 1]);
+    Some(&d[x..end])
 }

@@ -15,20 +15,20 @@ use tabulation::table::{row_at, shape};
 const MEMBER_DEPTH: usize = 2;
 
 // Where the k descriptors that stand in a row from `start` on end.
+#[tactic(auto, using(crate::proofs::InRow::row_laws))]
 fn row_end(d: &[u8], k: usize, start: usize) -> usize
     requires { RowStands d.now k start depth_limit }
     ensures { result ≡ next_of (standing_row d.now k start) }
 {
     let mut p = start;
-    let mut i = 0;
-    while i < k {
+    for _ in 0..k {
         p += size_at(d, p);
-        i += 1;
     }
     p
 }
 
 // The place of the name of the member whose descriptor stands at p, 0 where it has none.
+#[tactic(auto, using(crate::proofs::Single::single_laws))]
 pub fn name_place(d: &[u8], p: usize, size: usize) -> u16
     requires inner { Inner d.now p }
     requires size_value { size ≡ size_in d.now p }
@@ -43,6 +43,7 @@ pub fn name_place(d: &[u8], p: usize, size: usize) -> u16
 }
 
 // The row of the member whose descriptor stands at p.
+#[tactic(auto, using(crate::proofs::Single::single_laws))]
 pub fn member_row(d: &[u8], p: usize) -> Row
     requires { Inner d.now p }
     ensures { result ≡ row_of p 2 (type_at d.now p) }

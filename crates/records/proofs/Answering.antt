@@ -4,36 +4,38 @@ use mathlib.Core.Path.{◌≡◌, refl, sym, ap, subst, ◌∙◌}
 use mathlib.Core.Bool.{true, false}
 use mathlib.Core.List.{List, ◌++◌}
 use Prim.Native.Nat.{ℕ, ◌+◌, ◌≤◌, ◌<◌, ◌^◌}
+use Rattle.std.specs.Prelude.{Ok, Err}
 use native.Mathlib.Omega.{arith}
 use borrow.Author.Tests.{leb-true, le-leb, lt-leb}
 use lib.Dec.{leb, eqb}
-use lib.ListN.{length, get_or, drop}
+use lib.ListN.{length, get_or, take, drop, length-take}
+use lib.Seq.{get_or-take}
 use Rattle.descriptor.specs.Limits.{data_limit, depth_limit}
-use Rattle.descriptor.specs.Tree.{Tree, Forest, forest_length}
+use Rattle.descriptor.specs.Tree.{Tree, Forest}
 use Rattle.descriptor.specs.Outcome.{Outcome, refused, read, denied, granted, judge, settle}
 use Rattle.descriptor.specs.Check.{checked}
 use Rattle.descriptor.specs.Answers.{accepted}
 use Rattle.descriptor.specs.Output.{Written, unwritten, written_to}
-use Rattle.descriptor.specs.inner.Standing.{inside_of}
-use Rattle.descriptor.specs.inner.Steps.{counted}
-use Rattle.descriptor.specs.declared.inside.Inside.{Inside}
-use Rattle.descriptor.specs.declared.step.Step.{Step}
+use Rattle.descriptor.specs.declared.refusal.Refusal.{Refusal}
 use Rattle.descriptor.proofs.Outcomes.{Holds, found, holds_read, holds-require, holds-and_then, holds-self}
-use Rattle.descriptor.proofs.Steps.{got, lost}
 use Rattle.canonical.specs.inner.Walk.{Accepted}
 use Rattle.flattened.specs.Order.{big}
 use Rattle.flattened.specs.Token.{Token}
 use Rattle.flattened.specs.Walk.{walk, walk_all, walked}
 use Rattle.flattened.specs.inner.Types.{type_at, types_at}
-use Rattle.members.specs.inner.Members.{Members, top_at, place_from, type_from, name_from, Column}
+use Rattle.members.specs.inner.Members.{Members, top_at, top_count, type_from}
+use Rattle.members.specs.declared.roster.Roster.{Roster}
 use Rattle.members.specs.inner.Joining.{picked_bytes, Copies}
 use Rattle.resolution.specs.Record.{Member, writer_members, reader_members, joined_bytes, record_bytes, resolved}
-use Rattle.resolution.specs.inner.Data.{data_from}
-use Rattle.resolution.specs.inner.Searching.{Listed, all_members}
-use Rattle.resolution.specs.inner.Picking.{Ascends, StartsIn, Plans}
-use Rattle.resolution.specs.inner.Tops.{is_cluster, top_count, TopStarts, TopNames}
+use Rattle.resolution.specs.inner.Data.{data_from, passed}
+use Rattle.resolution.specs.inner.Searching.{all_members}
+use Rattle.resolution.specs.inner.Picking.{Ascends, StartsIn, Planned, Unplanned}
+use Rattle.resolution.specs.inner.Tops.{is_cluster, TopStarts, NamesRight, NamesWrong}
+use Rattle.resolution.proofs.Ends.{passed-lost, passed-got}
 use Rattle.records.specs.inner.Ready.{Ready}
-use Rattle.records.proofs.Topmost.{top-tree, top-members, top-walk, top-writers, writers-none, names-forest}
+use Rattle.descriptor.proofs.Checked.{judged-refused, judged-place}
+use Rattle.canonical.proofs.Judged.{judged-accepted}
+use Rattle.records.proofs.Topmost.{top-tree, top-members, top-walk, top-writers, writers-none}
 use Rattle.records.proofs.Gathered.{data-walked, data-inside, data-order, gathered}
 
 module _ (w r s out : List ℕ) where
@@ -125,9 +127,15 @@ module _ (w s : List ℕ) (writer : Accepted w) (cluster : is_cluster w ≡ true
         ∙ gathered w (top_count w) (top_at w) s depth_limit it.end tokens (top-members w writer cluster).row row-walks,
   )
 
-module _ (w r s starts reading called : List ℕ) (n : ℕ) (ready : Ready w r s starts reading called n) where
+module _ (w s starts : List ℕ) (reader : Roster) (ready : Ready w s starts reader) where
   abbrev k : ℕ
   k = top_count w
+
+  abbrev r : List ℕ
+  r = reader.d.now
+
+  abbrev n : ℕ
+  n = reader.count
 
   pub ready-members : Members w k (top_at w)
   ready-members = top-members w ready.writer ready.cluster
@@ -153,109 +161,88 @@ module _ (w r s starts reading called : List ℕ) (n : ℕ) (ready : Ready w r s
 
     joined : resolved w r s out ≡ joining (joined_bytes 0 (types_at r n (top_at r)) s (all_members w k s))
     joined =
-        ahead w r s out ready.writer ready.reader ready.end ready.tokens ready.walks
+        ahead w r s out ready.writer ready.accepted ready.end ready.tokens ready.walks
         ∙ (λ i.
-        left w r s out ready.writer ready.reader (ready.names i)
+        left w r s out ready.writer ready.accepted (ready.names.is i)
         ((members-are w s ready.writer ready.cluster ready.end ready.tokens ready.walks).1 i))
 
-    module _ (picks : List ℕ) (p : Step) (plans : Plans w k r n starts picks p) where
-      -- a member at fault
-      pub ready-lost : p.ok ≡ false → unwritten out p.number 2 p.place ≡ resolved w r s out
-      ready-lost off = sym (joined ∙ ap joining (plans.lost off s ready.column))
+    -- a member at fault
+    module _ (x : Refusal) (lost : Unplanned w k r n starts x) where
+      pub ready-lost : unwritten out x.number 2 x.place ≡ resolved w r s out
+      ready-lost = sym (joined ∙ ap joining (lost.is s ready.column))
 
-      pub ready-place : p.ok ≡ false → p.place < 2 ^ 32
-      ready-place off = let h = plans.place off in omega (arith, ready.listed.members.few)
+      pub ready-place : x.place < 2 ^ 32
+      ready-place = omega (arith, lost.place, reader.listed.members.few)
 
-      module _ (on : p.ok ≡ true) where
-        abbrev bytes : List ℕ
-        bytes = picked_bytes s starts picks n
+    -- or none
+    module _ (picks : List ℕ) (total : ℕ) (plan : Planned w k r n starts picks total) where
+      abbrev bytes : List ℕ
+      bytes = picked_bytes s starts (take n picks)
 
-        pub ready-long : length bytes ≡ p.value
-        ready-long = plans.long on s ready-in
+      pub ready-long : length bytes ≡ total
+      ready-long = plan.long s ready-in
 
-        pub ready-total : p.value < 2 ^ 32
-        ready-total = let h = plans.most on in omega (arith, ready.listed.members.few)
+      pub ready-total : total < 2 ^ 32
+      ready-total = omega (arith, plan.most, reader.listed.members.few)
 
-        all : resolved w r s out ≡ written_to out bytes
-        all = joined ∙ ap joining (plans.got on s ready.column)
+      all : resolved w r s out ≡ written_to out bytes
+      all = joined ∙ ap joining (plan.is s ready.column)
 
-        -- the output is too small
-        pub ready-small : length out < p.value → unwritten out 50 4 p.value ≡ resolved w r s out
-        unfolding written_to
-        ready-small h =
-            let over : _ = lt-leb (length bytes) (length out) (omega (arith, ready-long)) in
-            ap (unwritten out 50 4) (sym ready-long) ∙ sym (all ∙ rw over refl)
+      -- the output is too small
+      pub ready-small : length out < total → unwritten out 50 4 total ≡ resolved w r s out
+      unfolding written_to
+      ready-small h =
+          let over : _ = lt-leb (length bytes) (length out) (omega (arith, ready-long)) in
+          ap (unwritten out 50 4) (sym ready-long) ∙ sym (all ∙ rw over refl)
 
-        -- the members picked lie in the data
-        pub ready-copies : Copies s starts picks n
-        ready-copies = record {
-          few = ready.listed.members.few;
-          index = λ j h. omega (arith, (plans.within on).at j h, ready-members.few);
-          order = λ j h. ready-ascends.order (get_or picks j 0) ((plans.within on).at j h);
-          inside = λ j h. ready-in.at (get_or picks j 0 + 1) (omega (arith, (plans.within on).at j h));
-        }
+      -- the members picked lie in the data
+      picks-are : (j : ℕ) → j < length (take n picks) → get_or (take n picks) j 0 < k
+      picks-are j h =
+          let within : j < n = omega (arith, length-take n picks) in
+          rw (get_or-take n picks j 0 within) (plan.within.at j within)
 
-        -- they are written
-        pub ready-written : p.value ≤ length out → (last : List ℕ) → last ≡ bytes ++ drop (length bytes) out
-            → record { answer = accepted p.value; out = last } ≡ resolved w r s out
-        unfolding written_to
-        ready-written h last e =
-            let fits : _ = le-leb (length bytes) (length out) (omega (arith, ready-long)) in
-            (λ i. record { answer = accepted (sym ready-long i); out = e i }) ∙ sym (all ∙ rw fits refl)
+      pub ready-copies : Copies s starts (take n picks)
+      ready-copies = record {
+        order = λ j h. ready-ascends.order (get_or (take n picks) j 0) (picks-are j h);
+        inside = λ j h. ready-in.at (get_or (take n picks) j 0 + 1) (omega (arith, picks-are j h));
+      }
 
--- by where the code finds the members
-pub plans-top : (w r : List ℕ) (n : ℕ) (starts picks : List ℕ) (p : Step) (x : Inside) → x ≡ inside_of w 0 → Plans w x.children r n starts picks p
-    → Plans w (top_count w) r n starts picks p
-plans-top w r n starts picks p x e = subst (λ (y : Inside). Plans w y.children r n starts picks p) e
-
-pub listed-top : (w places names : List ℕ) → Members w (top_count w) (top_at w) → (x : Inside) → x ≡ inside_of w 0
-    → Column (place_from w x.at) x.children places → Column (name_from w x.at) x.children names → Listed w x.children places names
-listed-top w places names all x e standing naming = record {
-  members = subst (λ (y : Inside). Members w y.children (top_at w)) (sym e) all;
-  standing = subst (λ (y : Inside). Column (place_from w y.at) x.children places) e standing;
-  naming = subst (λ (y : Inside). Column (name_from w y.at) x.children names) e naming;
-}
-
-pub ascends-top : (w starts : List ℕ) (x : Inside) → x ≡ inside_of w 0 → Ascends (top_count w) starts → Ascends x.children starts
-ascends-top w starts x e = subst (λ (y : Inside). Ascends y.children starts) (sym e)
+      -- they are written
+      pub ready-written : total ≤ length out → (last : List ℕ) → last ≡ bytes ++ drop (length bytes) out
+          → record { answer = accepted total; out = last } ≡ resolved w r s out
+      unfolding written_to
+      ready-written h last e =
+          let fits : _ = le-leb (length bytes) (length out) (omega (arith, ready-long)) in
+          (λ i. record { answer = accepted (sym ready-long i); out = e i }) ∙ sym (all ∙ rw fits refl)
 
 -- what the steps of the code refuse
-module _ (w r s out : List ℕ) (writer : Accepted w) (reader : Accepted r) (walking : Step) (walks : walking ≡ counted (λ _. 0) (walked big (type_at w 0) s)) where
-  pub walk_refused : walking.ok ≡ false → unwritten out walking.number 3 walking.place ≡ resolved w r s out
-  walk_refused off = data-refused w r s out writer reader _ _ (lost (λ _. 0) (λ _. 0) (walked big (type_at w 0) s) walking walks off).eq
+module _ (w r s out : List ℕ) (writer : Accepted w) (accepted : Accepted r) where
+  pub walk-refused : (x : Refusal) → Err x ≡ passed (walked big (type_at w 0) s) → unwritten out x.number 3 x.place ≡ resolved w r s out
+  walk-refused x e = data-refused w r s out writer accepted _ _ (passed-lost (walked big (type_at w 0) s) x e)
 
-  module _ (on : walking.ok ≡ true) (naming : Step) (names : naming ≡ counted forest_length (reader_members (type_at r 0))) where
-    done : walked big (type_at w 0) s ≡ read walking.next (got (λ _. 0) (λ _. 0) (walked big (type_at w 0) s) walking walks on).value
-    done = (got (λ _. 0) (λ _. 0) (walked big (type_at w 0) s) walking walks on).eq
+  module _ (walks : Ok tt ≡ passed (walked big (type_at w 0) s)) where
+    done : (end : ℕ) × ((ts : List Token) × (walked big (type_at w 0) s ≡ read end ts))
+    done = passed-got (walked big (type_at w 0) s) walks
 
-    pub naming-refused : naming.ok ≡ false → unwritten out naming.number 2 naming.place ≡ resolved w r s out
-    naming-refused off =
-        names-refused w r s out writer reader _ _ done _ _ (lost forest_length (λ _. 0) (reader_members (type_at r 0)) naming names off).eq
+    pub naming-refused : (x : Refusal) → NamesWrong r x → unwritten out x.number 2 x.place ≡ resolved w r s out
+    naming-refused x wrong = names-refused w r s out writer accepted _ _ done.1.1 _ _ wrong.is
 
-    pub cluster-refused : naming.ok ≡ true → is_cluster w ≡ false → unwritten out 41 1 0 ≡ resolved w r s out
-    cluster-refused right n =
-        let m = got forest_length (λ _. 0) (reader_members (type_at r 0)) naming names right in
-        no-cluster w r s out writer reader _ _ done naming.next m.value m.eq n
+    module _ (reader : Roster) (right : NamesRight r reader) where
+      pub cluster-refused : is_cluster w ≡ false → unwritten out 41 1 0 ≡ resolved w r s out
+      cluster-refused none = no-cluster w r s out writer accepted _ _ done.1.1 right.last _ right.is none
 
--- all else is judged
-module _ (w r s starts reading called : List ℕ) (writer : Accepted w) (reader : Accepted r) (walking : Step)
-    (walks : walking ≡ counted (λ _. 0) (walked big (type_at w 0) s)) (begun : TopStarts w s starts walking) (on : walking.ok ≡ true) (naming : Step)
-    (names : naming ≡ counted forest_length (reader_members (type_at r 0))) (listed : TopNames r reading called naming) (right : naming.ok ≡ true) where
-  pub made-ready : is_cluster w ≡ true → Ready w r s starts reading called naming.value
-  made-ready yes-cluster =
-      let g = got (λ _. 0) (λ _. 0) (walked big (type_at w 0) s) walking walks on in
-      let m = got forest_length (λ _. 0) (reader_members (type_at r 0)) naming names right in
-      let forest = names-forest r reader (listed.cluster right) naming.next m.value m.eq in
-      record {
+      -- all else is judged
+      pub made-ready : (yes-cluster : is_cluster w ≡ true) → (starts : List ℕ) → TopStarts w s starts (Ok tt) → Ready w s starts reader
+      made-ready yes-cluster starts column = record {
         writer = writer;
-        reader = reader;
+        accepted = subst (λ (d : List ℕ). Accepted d) (sym right.of) accepted;
         cluster = yes-cluster;
-        end = walking.next;
-        tokens = g.value;
-        walks = g.eq;
-        next = naming.next;
-        names = m.eq ∙ ap (λ (f : Forest). read naming.next f) forest ∙ ap (λ (n : ℕ). read naming.next (types_at r n (top_at r))) (sym (listed.count right));
-        column = begun.all on yes-cluster;
-        listed = listed.listed right;
-        named = listed.named right;
+        end = done.0;
+        tokens = done.1.0;
+        walks = done.1.1;
+        column = column yes-cluster;
+        names = subst (λ (d : List ℕ). NamesRight d reader) (sym right.of) right;
       }
+
+-- what a reading finds its answers with
+pub ruleset reading_laws = (walk-refused, naming-refused, cluster-refused, made-ready, writer-refused, reader-refused, judged-refused, judged-place, judged-accepted)

@@ -4,6 +4,7 @@ use mathlib.Core.Path.{◌≡◌, refl, sym, ap, subst, ◌∙◌}
 use mathlib.Core.Bool.{true, false}
 use mathlib.Core.List.{List, []}
 use Prim.Native.Nat.{ℕ, suc, ◌≤◌, ◌<◌}
+use Rattle.std.specs.Prelude.{Result, Ok, Err}
 use native.Mathlib.Omega.{arith}
 use borrow.Author.Tests.{le-leb, lt-leb, eq-eqb, ne_eqb}
 use lib.ListN.{length}
@@ -13,42 +14,42 @@ use Rattle.descriptor.specs.Header.{code_in}
 use Rattle.descriptor.specs.Tree.{Name, Fields, empty, items, pairs, text, dimensions, members, subtype, Tree, node, Forest, nil, cons, child_count, inside_at, forest_length, row_count, forest_rows}
 use Rattle.descriptor.specs.Outcome.{Outcome, refused, read, and_then}
 use Rattle.descriptor.specs.inner.Standing.{standing, standing_row, is_read, fields_of, contents_start, inside_of, Stands}
-use Rattle.descriptor.specs.inner.Steps.{counted, refused_step, read_step}
+use Rattle.descriptor.specs.inner.Steps.{refusal_at}
 use Rattle.descriptor.specs.inner.Filling.{zero_rows}
 use Rattle.descriptor.specs.declared.inside.Inside.{Inside}
-use Rattle.descriptor.specs.declared.step.Step.{Step}
+use Rattle.descriptor.specs.declared.refusal.Refusal.{Refusal}
+use Rattle.descriptor.proofs.Bodies.{header-room}
 use Rattle.descriptor.proofs.Checked.{few-rows}
-use Rattle.descriptor.proofs.Outcomes.{found, holds_read, holds-and_then, holds-self}
-use Rattle.descriptor.proofs.Standing.{accepted-standing, row_ends}
-use Rattle.descriptor.proofs.Steps.{Got, got, lost, impossible}
+use Rattle.descriptor.proofs.Outcomes.{holds_read}
+use Rattle.descriptor.proofs.Standing.{accepted-standing, standing-low, row_ends}
+use Rattle.descriptor.proofs.Steps.{impossible}
 use Rattle.canonical.specs.inner.Walk.{Accepted}
 use Rattle.flattened.specs.Order.{big}
+use Rattle.flattened.specs.Token.{Token}
 use Rattle.flattened.specs.Walk.{walk_fields, walk, walk_all, walked}
 use Rattle.flattened.specs.inner.Types.{type_of, type_at, types_at, TypeStands, RowStands, fields_kind}
-use Rattle.walking.proofs.Checking.{top-stands}
 use Rattle.flattened.proofs.Forward.{walk-forward}
 use Rattle.flattened.proofs.Refusals.{walk-place}
 use Rattle.flattened.proofs.Repeats.{follow-last}
 use Rattle.flattened.proofs.Types.{TypeMade, type-made, type-inside, type-solid, row_read-is, alone}
-use Rattle.members.specs.inner.Members.{Members, top_at, place_from, name_from, Column}
+use Rattle.members.specs.inner.Members.{Members, top_at, top_count}
+use Rattle.members.specs.declared.roster.Roster.{Roster}
 use Rattle.resolution.specs.Record.{members_from, writer_fields, writer_members, reader_names, reader_fields, reader_members}
-use Rattle.resolution.specs.inner.Data.{data_from, Starts}
-use Rattle.resolution.specs.inner.Names.{AllNamed}
-use Rattle.resolution.specs.inner.Searching.{Listed}
-use Rattle.resolution.specs.inner.Picking.{Naming}
-use Rattle.resolution.specs.inner.Tops.{is_members, is_cluster, top_count, TopRow, TopStarts, TopNames}
-use Rattle.resolution.proofs.Walking.{walk_step}
+use Rattle.resolution.specs.inner.Data.{end_of, passed}
+use Rattle.resolution.specs.inner.Names.{Naming}
+use Rattle.resolution.specs.inner.Tops.{is_members, is_cluster, TopRow, NamesRight, NamesWrong}
+use Rattle.resolution.proofs.Ends.{end-lost, end-got, passed-lost, passed-got}
 
 -- the fields of a kind
 kind-members : (b : Fields) → cluster ≡ fields_kind b → is_members b ≡ true
 unfolding is_members fields_kind
-kind-members empty e = absurd (let z : ◌≡◌ {A = ℕ} 0 1 = cc in omega arith)
-kind-members (items xs) e = absurd (let z : ◌≡◌ {A = ℕ} 0 1 = cc in omega arith)
-kind-members (pairs ps) e = absurd (let z : ◌≡◌ {A = ℕ} 0 1 = cc in omega arith)
-kind-members text e = absurd (let z : ◌≡◌ {A = ℕ} 0 1 = cc in omega arith)
-kind-members (dimensions d) e = absurd (let z : ◌≡◌ {A = ℕ} 0 1 = cc in omega arith)
+kind-members empty e = absurd (cc)
+kind-members (items xs) e = absurd (cc)
+kind-members (pairs ps) e = absurd (cc)
+kind-members text e = absurd (cc)
+kind-members (dimensions d) e = absurd (cc)
 kind-members (members k) e = refl
-kind-members subtype e = absurd (let z : ◌≡◌ {A = ℕ} 0 1 = cc in omega arith)
+kind-members subtype e = absurd (cc)
 
 kind-others : (b : Fields) → (cluster ≡ fields_kind b → ⊥) → is_members b ≡ false
 unfolding is_members fields_kind
@@ -130,7 +131,14 @@ module _ (d : List ℕ) (here : Stands d 0) where
 
 module _ (d : List ℕ) (a : Accepted d) where
   pub stands : TypeStands d 0 depth_limit
-  stands = top-stands big d [] a.at a.tree a.eq
+  unfolding is_read type_of
+  stands =
+      let there = accepted-standing d a.at a.tree a.eq in
+      let top : type_at d 0 ≡ a.tree = ap type_of there.0 in
+      record {
+        here = record { is = ap is_read there.0; small = omega (arith, there.1.1) };
+        low = rw top (standing-low d 0 a.at a.tree there.0);
+      }
 
   abbrev pub top-here : Stands d 0
   top-here = stands.here
@@ -192,7 +200,7 @@ module _ (d : List ℕ) (a : Accepted d) where
     pub top-cluster : (r : Inside) → r ≡ inside_of d 0 → TopRow d r
     top-cluster r e =
         subst (λ (x : Inside). TopRow d x) (sym e)
-        (record { row = top-members; walks = λ s. ap walk_step (sym (top-walk s)); cluster = λ _. refl })
+        (record { row = top-members; walks = λ s. ap end_of (sym (top-walk s)); cluster = λ _. refl })
 
     -- the rig's members
     pub top-writers : (s : List ℕ) → writer_members (type_at d 0) s ≡ members_from (types_at d (top_count d) (top_at d)) (top_at d) s 0
@@ -210,29 +218,36 @@ module _ (d : List ℕ) (a : Accepted d) where
         ∙ ap (λ (b : Fields). reader_fields b it.inner) some.is
         ∙ ap (λ (f : Forest). and_then (reader_names [] 0 f) (λ last _. read last f)) (sym top-types)
 
-    -- what is read of them are the members
-    pub names-forest : (q : ℕ) (f : Forest) → reader_members (type_at d 0) ≡ read q f → f ≡ types_at d (top_count d) (top_at d)
-    names-forest q f e =
-        holds_read {P = λ p g. g ≡ types_at d (top_count d) (top_at d)} (sym readers ∙ e)
-        (holds-and_then (holds-self (reader_names [] 0 (types_at d (top_count d) (top_at d)))) (λ _ _ _. found refl))
+    -- as the code has listed them, are judged
+    module _ (reader : Roster) (of : reader.d.now ≡ d) (all : reader.count ≡ top_count d) where
+      judged : passed (reader_names [] 0 (types_at reader.d.now reader.count (top_at reader.d.now))) ≡ passed (reader_names [] 0 (types_at d (top_count d) (top_at d)))
+      judged = λ i. passed (reader_names [] 0 (types_at (of i) (all i) (top_at (of i))))
 
-    -- are judged
-    module _ (named : Step) (en : named ≡ counted (λ _. 0) (reader_names [] 0 (types_at d (top_count d) (top_at d)))) where
-      pub names-lost : named.ok ≡ false → named ≡ counted forest_length (reader_members (type_at d 0))
-      names-lost off =
-          let l = lost (λ _. 0) (λ _. 0) (reader_names [] 0 (types_at d (top_count d) (top_at d))) named en off in
-          l.same
-          ∙ sym (ap (counted forest_length) (readers
-          ∙ ap (λ (o : Outcome (List (List ℕ))). and_then o (λ last _. read last (types_at d (top_count d) (top_at d)))) l.eq))
+      pub names-lost : (r : Refusal) → Err r ≡ passed (reader_names [] 0 (types_at reader.d.now reader.count (top_at reader.d.now)))
+          → r.place < reader.count → NamesWrong d r
+      names-lost r e within = record {
+        place = omega (arith, all, top-members.few);
+        is =
+            readers
+            ∙ ap (λ (o : Outcome (List (List ℕ))). and_then o (λ last _. read last (types_at d (top_count d) (top_at d))))
+            (passed-lost (reader_names [] 0 (types_at d (top_count d) (top_at d))) r (e ∙ judged));
+      }
 
-      pub names-got : named.ok ≡ true → (x : Step) → x ≡ read_step named.next (top_count d) 0 → x ≡ counted forest_length (reader_members (type_at d 0))
-      names-got on x ex =
-          let g = got (λ _. 0) (λ _. 0) (reader_names [] 0 (types_at d (top_count d) (top_at d))) named en on in
-          let long : forest_length (types_at d (top_count d) (top_at d)) ≡ top_count d = ap forest_length top-types ∙ many in
-          ex
-          ∙ ap (λ (n : ℕ). read_step named.next n 0) (sym long)
-          ∙ sym (ap (counted forest_length) (readers
-          ∙ ap (λ (o : Outcome (List (List ℕ))). and_then o (λ last _. read last (types_at d (top_count d) (top_at d)))) g.eq))
+      pub names-got : Ok tt ≡ passed (reader_names [] 0 (types_at reader.d.now reader.count (top_at reader.d.now)))
+          → Naming reader.count reader.names.now → NamesRight d reader
+      names-got e named =
+          let got = passed-got (reader_names [] 0 (types_at d (top_count d) (top_at d))) (e ∙ judged) in
+          record {
+            cluster = yes-cluster;
+            of = of;
+            all = all;
+            named = named;
+            last = got.0;
+            is =
+                readers
+                ∙ ap (λ (o : Outcome (List (List ℕ))). and_then o (λ last _. read last (types_at d (top_count d) (top_at d)))) got.1.1
+                ∙ ap (λ (n : ℕ). read got.0 (types_at d n (top_at d))) (sym all);
+          }
 
   -- where it is not
   module _ (no-cluster : is_cluster d ≡ false) where
@@ -242,123 +257,58 @@ module _ (d : List ℕ) (a : Accepted d) where
         let one = alone d 0 depth_limit stands in
         record {
           row = record { row = one.0; few = omega arith; short = top-short };
-          walks = λ s. ap walk_step (ap (λ (f : Forest). walk_all big f s 0) one.1 ∙ follow-last (walk big (type_at d 0) s 0));
+          walks = λ s. ap end_of (ap (λ (f : Forest). walk_all big f s 0) one.1 ∙ follow-last (walk big (type_at d 0) s 0));
           cluster = λ e. impossible (sym no-cluster ∙ e);
         }
 
     fields-no : is_members it.fields ≡ false
     fields-no = ap is_members (sym (fields-is d top-here)) ∙ no-cluster
 
-    pub names-none : refused_step 40 0 ≡ counted forest_length (reader_members (type_at d 0))
-    names-none = sym (ap (counted forest_length) (ap reader_members it.tree ∙ no-readers it.fields it.inner fields-no))
+    pub names-none : NamesWrong d (refusal_at 40 0)
+    names-none = record { place = omega arith; is = ap reader_members it.tree ∙ no-readers it.fields it.inner fields-no }
 
     pub writers-none : (s : List ℕ) → writer_members (type_at d 0) s ≡ refused 41 0
     writers-none s = ap (λ (t : Tree). writer_members t s) it.tree ∙ no-writers it.fields it.inner s fields-no
 
   -- the walk of data
   module _ (s : List ℕ) where
-    abbrev whole : Step
-    whole = walk_step (walked big (type_at d 0) s)
+    abbrev whole : Result (Unit {0}) Refusal
+    whole = passed (walked big (type_at d 0) s)
 
-    pub data-long : data_limit < length s → refused_step 20 0 ≡ whole
+    pub data-long : data_limit < length s → Err (refusal_at 20 0) ≡ whole
     unfolding walked
     data-long h = sym (simp (lt-leb (length s) data_limit h))
 
-    module _ (short : length s ≤ data_limit) (top : Inside) (row : TopRow d top) (r : Step)
-        (er : r ≡ walk_step (walk_all big (types_at d top.children top.at) s 0)) where
-      is : r ≡ walk_step (walk big (type_at d 0) s 0)
-      is = er ∙ row.walks s
-
-      module _ (off : r.ok ≡ false) where
+    module _ (short : length s ≤ data_limit) (top : Inside) (row : TopRow d top) where
+      -- is refused
+      module _ (r : Refusal) (e : Err r ≡ end_of (walk_all big (types_at d top.children top.at) s 0)) where
         stopped : walk big (type_at d 0) s 0 ≡ refused r.number r.place
-        stopped = (lost (λ _. 0) (λ _. 0) (walk big (type_at d 0) s 0) r is off).eq
+        stopped = end-lost (walk big (type_at d 0) s 0) r (e ∙ row.walks s)
 
-        pub data-lost : r ≡ whole
+        pub data-lost : Err r ≡ whole
         unfolding walked
-        data-lost = (lost (λ _. 0) (λ _. 0) (walk big (type_at d 0) s 0) r is off).same ∙ sym (simp (le-leb (length s) data_limit short, stopped))
+        data-lost = sym (simp (le-leb (length s) data_limit short, stopped))
 
         pub data-place : r.place ≤ data_limit
         data-place = let h = walk-place s big (type_at d 0) 0 r.number r.place (omega arith) stopped in omega arith
 
-      module _ (on : r.ok ≡ true) where
-        got-walk : Got (λ _. 0) (λ _. 0) (walk big (type_at d 0) s 0) r
-        got-walk = got (λ _. 0) (λ _. 0) (walk big (type_at d 0) s 0) r is on
+      -- or ends
+      module _ (end : ℕ) (e : Ok end ≡ end_of (walk_all big (types_at d top.children top.at) s 0)) where
+        ended : (ts : List Token) × (walk big (type_at d 0) s 0 ≡ read end ts)
+        ended = end-got (walk big (type_at d 0) s 0) end (e ∙ row.walks s)
 
-        pub data-end : r.next ≤ data_limit
+        pub data-end : end ≤ data_limit
         data-end =
-            let f = holds_read got-walk.eq (walk-forward s (type_at d 0) (type-solid d 0 depth_limit stands) big 0 (omega arith)) in
+            let f = holds_read ended.1 (walk-forward s (type_at d 0) (type-solid d 0 depth_limit stands) big 0 (omega arith)) in
             omega (arith, f.inside)
 
-        pub data-over : (r.next ≡ length s → ⊥) → refused_step 25 r.next ≡ whole
+        pub data-over : (end ≡ length s → ⊥) → Err (refusal_at 25 end) ≡ whole
         unfolding walked
-        data-over h = sym (simp (le-leb (length s) data_limit short, got-walk.eq, ne_eqb r.next (length s) h))
+        data-over h = sym (simp (le-leb (length s) data_limit short, ended.1, ne_eqb end (length s) h))
 
-        pub data-whole : r.next ≡ length s → r ≡ whole
+        pub data-whole : end ≡ length s → Ok tt ≡ whole
         unfolding walked
-        data-whole h =
-            is ∙ ap walk_step got-walk.eq
-            ∙ sym (simp (le-leb (length s) data_limit short, got-walk.eq, eq-eqb r.next (length s) h))
+        data-whole h = sym (simp (le-leb (length s) data_limit short, ended.1, eq-eqb end (length s) h))
 
-        pub data-zero : r.place ≤ data_limit
-        data-zero = let z : r.place ≡ 0 = ap (λ (x : Step). x.place) (is ∙ ap walk_step got-walk.eq) in omega arith
-
-      pub data-starts : (starts : List ℕ) → Starts (data_from d top.at s) top.children starts r → r.place ≤ data_limit → TopStarts d s starts r
-      data-starts starts st place = record {
-        all = λ on yes-cluster.
-            let same = row.cluster yes-cluster in
-            subst (λ (x : Inside). Column (data_from d x.at s) (suc x.children) starts) same (st.all on);
-        place = place;
-        long = st.long;
-      }
-
--- a refusal says nothing of the column
-pub refused-top : (d s starts : List ℕ) (number place : ℕ) (r : Step) → r ≡ refused_step number place → place ≤ data_limit → length starts ≡ 257 → TopStarts d s starts r
-refused-top d s starts number place r e h long = record {
-  all = λ on. impossible (sym (ap (λ (x : Step). x.ok) e) ∙ on);
-  place = subst (λ (n : ℕ). n ≤ data_limit) (sym (ap (λ (x : Step). x.place) e)) h;
-  long = long;
-}
-
--- nor of the names
-pub refused-names : (d places names : List ℕ) (r : Step) → r.ok ≡ false → r.place ≤ descriptor_limit → TopNames d places names r
-refused-names d places names r off place = record {
-  cluster = λ on. impossible (sym off ∙ on);
-  count = λ on. impossible (sym off ∙ on);
-  listed = λ on. impossible (sym off ∙ on);
-  named = λ on. impossible (sym off ∙ on);
-  place = λ _. place;
-}
-
--- the columns are of the members where the code found them
-pub names-column : (d names : List ℕ) (n : ℕ) (x : Inside) → x ≡ inside_of d 0 → Column (name_from d x.at) n names → Column (name_from d (top_at d)) n names
-names-column d names n x e = subst (λ (y : Inside). Column (name_from d y.at) n names) e
-
-pub top-listed : (d : List ℕ) → Members d (top_count d) (top_at d) → (places names : List ℕ) (x : Inside) → x ≡ inside_of d 0
-    → Column (place_from d x.at) x.children places → Column (name_from d x.at) x.children names → Listed d (top_count d) places names
-top-listed d all places names x e standing naming = record {
-  members = all;
-  standing = subst (λ (y : Inside). Column (place_from d y.at) y.children places) e standing;
-  naming = subst (λ (y : Inside). Column (name_from d y.at) y.children names) e naming;
-}
-
--- the names as the code judges them
-pub names-judged : (d : List ℕ) (x : Inside) → x ≡ inside_of d 0 → (named : Step) → named ≡ counted (λ _. 0) (reader_names [] 0 (types_at d x.children (top_at d)))
-    → named ≡ counted (λ _. 0) (reader_names [] 0 (types_at d (top_count d) (top_at d)))
-names-judged d x e named en = en ∙ ap (λ (y : Inside). counted (λ _. 0) (reader_names [] 0 (types_at d y.children (top_at d)))) e
-
-pub names-counted : (d : List ℕ) (x : Inside) → x ≡ inside_of d 0 → (r : Step) (next : ℕ) → r ≡ read_step next x.children 0 → r ≡ read_step next (top_count d) 0
-names-counted d x e r next er = er ∙ ap (λ (y : Inside). read_step next y.children 0) e
-
--- the reader's members, listed and named
-pub names-listed : (d places names : List ℕ) (r named : Step) (next : ℕ) → is_cluster d ≡ true → r ≡ read_step next (top_count d) 0
-    → Listed d (top_count d) places names → (x : Inside) → x ≡ inside_of d 0 → AllNamed x.children names named → named.ok ≡ true → TopNames d places names r
-names-listed d places names r named next yes-cluster er listed x ex all on =
-    let value : top_count d ≡ r.value = sym (ap (λ (y : Step). y.value) er) in
-    let ok : r.ok ≡ true = ap (λ (y : Step). y.ok) er in
-    record {
-      cluster = λ _. yes-cluster;
-      count = λ _. sym value;
-      listed = λ _. subst (λ (n : ℕ). Listed d n places names) value listed;
-      named = λ _. subst (λ (n : ℕ). Naming n names) (ap (λ (y : Inside). y.children) ex ∙ value) (record { some = all.some on });
-      place = λ off. impossible (sym off ∙ ok);
-    }
+-- what the top finds its answers with
+pub ruleset top_laws = (header-room, top-cluster, top-single, names-none, names-lost, names-got, data-long, data-lost, data-place, data-end, data-over, data-whole)

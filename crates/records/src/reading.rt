@@ -5,84 +5,69 @@ ghost use Rattle.resolution.specs.Record.{resolved};
 ghost use Rattle.records.specs.inner.Ready.{Ready};
 
 use super::top::{is_cluster, read_names, walk_top};
-use descriptor::answer::{Answer, answered};
-use descriptor::inside::inside_of;
-use members::columns::list_members;
+use descriptor::answer::{Answer, Input};
+use descriptor::refusal::Fault;
 use members::joining::copy_picked;
+use members::roster::Roster;
 use resolution::picking::pick_all;
 use validation::validate::validate;
 
-// Reads the n members of r from the cluster w, once all else is judged.
-fn read_members(
-    w: &[u8],
-    r: &[u8],
-    s: &[u8],
-    out: &mut [u8],
-    starts: &[u32; 257],
-    reading: &[u16; 256],
-    called: &[u16; 256],
-    n: usize,
-) -> Answer
-    requires { Ready w.now r.now s.now starts.now reading.now called.now n }
-    ensures answer { result ≡ (resolved w.now r.now s.now out.old).answer }
-    ensures wrote { out.new ≡ (resolved w.now r.now s.now out.old).out }
+// Reads the reader's members from the cluster w, once all else is judged.
+fn read_members(w: &[u8], reader: &Roster, s: &[u8], out: &mut [u8], starts: &[u32; 257]) -> Answer
+    requires { Ready w.now s.now starts.now reader.now }
+    ensures answer { result ≡ (resolved w.now reader.now.d.now s.now out.old).answer }
+    ensures wrote { out.new ≡ (resolved w.now reader.now.d.now s.now out.old).out }
 {
     let mut places = [0u16; 256];
     let mut names = [0u16; 256];
-    let top = inside_of(w, 0);
-    let k = top.children;
-    list_members(w, k, top.at, &mut places, &mut names);
+    let writer = Roster::list(w, &mut places, &mut names);
     let mut picks = [0u8; 256];
-    let picked = pick_all(
-        w, k, &places, &names, r, n, reading, called, starts, &mut picks,
-    );
-    if !picked.ok {
-        return answered(picked.number, 2, picked.place);
-    }
-    let total = picked.value;
+    let total = match pick_all(&writer, reader, starts, &mut picks) {
+        Ok(total) => total,
+        Err(lost) => return lost.of(Input::Second),
+    };
     if out.len() < total {
-        return answered(50, 4, total);
+        return Answer::refused(Fault::Room, Input::Request, total);
     }
-    copy_picked(s, starts, &picks, n, out);
-    answered(0, 0, total)
+    copy_picked(s, starts, &picks[..reader.count], out);
+    Answer::accepted(total)
 }
 
 // Reads the data s of w in the shape of r, both accepted: the data, then the reader's names, then whether the rig's top is a cluster.
+#[tactic(auto, using(crate::proofs::Answering::reading_laws))]
 fn read_accepted(w: &[u8], r: &[u8], s: &[u8], out: &mut [u8]) -> Answer
-    requires accepted { Accepted w.now }
-    requires accepted_2 { Accepted r.now }
+    requires writer { Accepted w.now }
+    requires reader { Accepted r.now }
     ensures answer { result ≡ (resolved w.now r.now s.now out.old).answer }
     ensures wrote { out.new ≡ (resolved w.now r.now s.now out.old).out }
 {
     let mut starts = [0u32; 257];
-    let walked = walk_top(w, s, &mut starts);
-    if !walked.ok {
-        return answered(walked.number, 3, walked.place);
+    if let Err(stopped) = walk_top(w, s, &mut starts) {
+        return stopped.of(Input::Data);
     }
     let mut reading = [0u16; 256];
     let mut called = [0u16; 256];
-    let named = read_names(r, &mut reading, &mut called);
-    if !named.ok {
-        return answered(named.number, 2, named.place);
-    }
+    let reader = match read_names(r, &mut reading, &mut called) {
+        Ok(reader) => reader,
+        Err(wrong) => return wrong.of(Input::Second),
+    };
     if !is_cluster(w) {
-        return answered(41, 1, 0);
+        return Answer::refused(Fault::Writer, Input::First, 0);
     }
-    read_members(w, r, s, out, &starts, &reading, &called, named.value)
+    read_members(w, &reader, s, out, &starts)
 }
 
 // Writes the reader's members' bytes, joined in the reader's order, to the front of out: the place is their length. A refusal writes nothing.
+#[tactic(auto, using(crate::proofs::Answering::reading_laws))]
 pub fn read_record(writer: &[u8], reader: &[u8], data: &[u8], out: &mut [u8]) -> Answer
     ensures answer { result ≡ (resolved writer.now reader.now «data».now out.old).answer }
     ensures wrote { out.new ≡ (resolved writer.now reader.now «data».now out.old).out }
 {
-    let v = validate(writer);
-    if !v.ok {
-        return answered(v.number, 1, v.place);
+    if let Err(refusal) = validate(writer) {
+        return refusal.of(Input::First);
     }
-    let u = validate(reader);
-    if !u.ok {
-        return answered(u.number, 2, u.place);
+    if let Err(refusal) = validate(reader) {
+        return refusal.of(Input::Second);
     }
     read_accepted(writer, reader, data, out)
 }

@@ -1,6 +1,6 @@
 -- A descriptor that stands inside accepted bytes is accepted by itself, with the same tree: its bytes are the tree's encoding, whose only
 -- places are those of the reserved bytes. Rests on the laws of the encoding.
-use mathlib.Core.Path.{◌≡◌, refl, sym, ap, ◌∙◌}
+use mathlib.Core.Path.{◌≡◌, refl, sym, ap, subst, ◌∙◌}
 use mathlib.Core.Bool.{false}
 use mathlib.Core.List.{List, ◌∷◌, ◌++◌}
 use Prim.Native.Nat.{ℕ, ◌+◌, ◌-◌, ◌≤◌, ◌<◌}
@@ -14,7 +14,7 @@ use Rattle.descriptor.specs.Encoding.{word, field_bytes, name_bytes, encode_with
 use Rattle.descriptor.specs.Outcome.{read}
 use Rattle.descriptor.specs.Check.{checked}
 use Rattle.descriptor.specs.inner.Standing.{standing}
-use Rattle.descriptor.proofs.Bodies.{Seen, seen}
+use Rattle.descriptor.proofs.Bodies.{Seen, seen, header-room}
 use Rattle.encoding.proofs.Sound.{Sound, read-sound}
 use Rattle.encoding.proofs.Accepted.{spells-accepted}
 use Rattle.canonical.specs.Equality.{same_tree, comparison}
@@ -75,10 +75,15 @@ module _ (d : List ℕ) (p : ℕ) (inner : Inner d p) where
         ∙ ap (λ (t : Tree). read (length (slice p end d)) t) (sym type-is)
 
     -- as a part that is lent
-    pub apart-accepted : (stop : ℕ) → stop ≡ end → checked (take (stop - p) (drop p d)) ≡ read (length (slice p end d)) (type_at d p)
-    apart-accepted stop e = ap checked (part_slice p stop d ∙ ap (λ (n : ℕ). slice p n d) e) ∙ accepted
+    pub apart-accepted : (stop : ℕ) → stop ≡ end → checked (take (stop - p) (drop p d)) ≡ read (length (take (stop - p) (drop p d))) (type_at d p)
+    apart-accepted stop e =
+        let part : take (stop - p) (drop p d) ≡ slice p end d = part_slice p stop d ∙ ap (λ (n : ℕ). slice p n d) e in
+        subst (λ (x : List ℕ). checked x ≡ read (length x) (type_at d p)) (sym part) accepted
 
 -- the comparison of two that are accepted
 pub accepted-compared : (a b : List ℕ) (i j : ℕ) (t u : Tree) → checked a ≡ read i t → checked b ≡ read j u → (comparison a b).equal ≡ same_tree t u
 unfolding comparison
 accepted-compared a b i j t u ea eb = rw (ea, eb) refl
+
+-- what equality finds its answers with
+pub ruleset apart_laws = (header-room, apart-within, apart-accepted, accepted-compared)

@@ -1,3 +1,4 @@
+pub mod Ends
 pub mod Walking
 pub mod Named
 pub mod Apart

@@ -1,67 +1,45 @@
 // The search for a name among the rig's members.
-ghost use Rattle.std.specs.Prelude.{◌≡◌, ◌<◌};
-ghost use Rattle.members.specs.inner.Names.{NameFits, NamesLie, chars_at, has_chars};
-ghost use Rattle.members.specs.inner.Chains.{Linked, Chained, last_of};
+ghost use Rattle.std.specs.Prelude.{◌≡◌};
+ghost use Rattle.members.specs.inner.Names.{has_chars};
+ghost use Rattle.members.specs.inner.Chains.{member, last_of};
 ghost use Rattle.resolution.specs.Record.{search_number};
-ghost use Rattle.resolution.specs.inner.Searching.{Listed, Finds};
+ghost use Rattle.resolution.specs.inner.Searching.{Finds};
 
 use super::Search;
-use members::chains::{last_namesake, mark};
-use members::columns::wide;
-use members::rows::member_row;
+use descriptor::refusal::Fault;
+use members::chains::{Chains, mark};
 
-// The last of the k members of w that has the name at y of r, counted from 1; 0 where none has it.
-pub fn last_named(
-    w: &[u8],
-    k: usize,
-    names: &[u16; 256],
-    heads: &[u16; 256],
-    links: &[u16; 256],
-    r: &[u8],
-    y: usize,
-) -> usize
-    requires names_lie { NamesLie w.now names.now k }
-    requires chained { Chained w.now names.now k heads.now links.now }
-    requires y_nonzero { (0 < y) × NameFits r.now y }
-    ensures { result ≡ last_of (has_chars (chars_at r.now y)) w.now names.now k }
+// The last of the rig's members that has this name.
+#[tactic(auto, using(crate::proofs::Seeking::search_laws))]
+pub fn last_named(w: &Chains, name: &[u8]) -> Option<usize>
+    ensures { result ≡ member (last_of (has_chars name.now) w.now.roster.d.now w.now.roster.names.now w.now.roster.count) }
 {
-    last_namesake(w, k, names, links, wide(heads[mark(r, y)]), r, y)
+    w.last_namesake(w.heads[mark(name)], name)
 }
 
-// What the search for the name at y of r finds among the k members of w, `last` being the last that has it.
-pub fn search(
-    w: &[u8],
-    k: usize,
-    places: &[u16; 256],
-    names: &[u16; 256],
-    links: &[u16; 256],
-    r: &[u8],
-    y: usize,
-    last: usize,
-) -> Search
-    requires listed { Listed w.now k places.now names.now }
-    requires linked { Linked w.now names.now k links.now }
-    requires y_nonzero { (0 < y) × NameFits r.now y }
-    requires last_value { last ≡ last_of (has_chars (chars_at r.now y)) w.now names.now k }
-    ensures { Finds w.now k (chars_at r.now y) result }
+// What the search for a name finds among the rig's members, `last` being the last that has it.
+#[tactic(auto, using(crate::proofs::Seeking::search_laws))]
+pub fn search(w: &Chains, name: &[u8], last: Option<usize>) -> Search
+    requires { last ≡ member (last_of (has_chars name.now) w.now.roster.d.now w.now.roster.names.now w.now.roster.count) }
+    ensures { Finds w.now.roster.d.now w.now.roster.count name.now result }
 {
-    if last == 0 {
+    let Some(i) = last else {
         return Search::Missing;
-    }
-    let member = last - 1;
-    if last_namesake(w, k, names, links, wide(links[member]), r, y) != 0 {
+    };
+    if w.last_namesake(w.links[i], name).is_some() {
         return Search::Doubled;
     }
-    Search::Found(member_row(w, wide(places[member])))
+    Search::Found(w.roster.row(i))
 }
 
 // Document 01's number for what a search finds.
+#[tactic(auto, unfolding(crate::specs::Record::search_number))]
 pub fn search_number(found: Search) -> u32
     ensures { result ≡ search_number found }
 {
     match found {
-        Search::Missing => 42,
-        Search::Doubled => 43,
-        Search::Found(row) => 0,
+        Search::Missing => Fault::Missing.number(),
+        Search::Doubled => Fault::Doubled.number(),
+        Search::Found(_) => 0,
     }
 }

@@ -1,83 +1,58 @@
 // The rig's members that a reader's members are read from.
-ghost use Rattle.std.specs.Prelude.{◌≡◌, length};
 ghost use Rattle.flattened.specs.inner.Types.{type_at};
-ghost use Rattle.members.specs.inner.Chains.{Chained};
-ghost use Rattle.resolution.specs.inner.Searching.{Listed};
-ghost use Rattle.resolution.specs.inner.Picking.{Called, Picks, Naming, Ascends, Plans};
+ghost use Rattle.resolution.specs.inner.Names.{Naming};
+ghost use Rattle.resolution.specs.inner.Picking.{Called, Picks, Ascends, Plans};
 
 use super::Search;
 use super::equality::same_type;
 use super::namesakes::{last_named, search, search_number};
-use descriptor::step::{Step, accept, refuse};
-use members::chains::chain;
-use members::columns::{position, wide};
+use descriptor::refusal::{Fault, Refusal};
+use members::chains::Chains;
+use members::roster::Roster;
 
-// The member of w that the reader's member j is read from; the value is its number. The reader's member stands at q of r and its name at y.
-pub fn pick(
-    w: &[u8],
-    k: usize,
-    places: &[u16; 256],
-    names: &[u16; 256],
-    heads: &[u16; 256],
-    links: &[u16; 256],
-    r: &[u8],
-    q: usize,
-    y: usize,
-    j: usize,
-) -> Step
-    requires listed { Listed w.now k places.now names.now }
-    requires chained { Chained w.now names.now k heads.now links.now }
-    requires called { Called r.now q y }
-    ensures { Picks w.now k (type_at r.now q) j result }
+// The number of the rig's member that the reader's member j is read from. The reader's member stands at q of r and has this name.
+#[tactic(auto, using(crate::proofs::Chosen::pick_laws))]
+pub fn pick(w: &Chains, r: &[u8], q: usize, name: &[u8], j: usize) -> Result<usize, Refusal>
+    requires { Called r.now q name.now }
+    ensures { Picks w.now.roster.d.now w.now.roster.count (type_at r.now q) j result }
 {
-    let last = last_named(w, k, names, heads, links, r, y);
-    let found = search(w, k, places, names, links, r, y, last);
+    let last = last_named(w, name);
+    let found = search(w, name, last);
     let Search::Found(row) = found else {
-        return refuse(search_number(found), j);
+        return Err(Refusal {
+            number: search_number(found),
+            place: j,
+        });
     };
-    if !same_type(r, q, w, wide(row.start)) {
-        return refuse(44, j);
+    let i = last.unwrap();
+    if !same_type(r, q, w.roster.d, usize::from(row.start)) {
+        return Err(Fault::Type.at(j));
     }
-    accept(0, last - 1, 0)
+    Ok(i)
 }
 
-// The members of w that the n members of r are read from, in order, into `picks`; the value is how long their bytes are, joined. The first
-// member at fault is the refusal.
+// The rig's members that the reader's are read from, in order, into `picks`, and how long their bytes are, joined. The first member at fault is
+// the refusal.
 pub fn pick_all(
-    w: &[u8],
-    k: usize,
-    places: &[u16; 256],
-    names: &[u16; 256],
-    r: &[u8],
-    n: usize,
-    reading: &[u16; 256],
-    called: &[u16; 256],
+    w: &Roster,
+    r: &Roster,
     starts: &[u32; 257],
     picks: &mut [u8; 256],
-) -> Step
-    requires listed { Listed w.now k places.now names.now }
-    requires listed_2 { Listed r.now n reading.now called.now }
-    requires naming { Naming n called.now }
-    requires ascends { Ascends k starts.now }
-    requires picks_len { length picks.old ≡ 256 }
-    ensures { Plans w.now k r.now n starts.now picks.new result }
+) -> Result<usize, Refusal>
+    requires naming { Naming r.now.count r.now.names.now }
+    requires ascends { Ascends w.now.count starts.now }
+    ensures { Plans w.now.d.now w.now.count r.now.d.now r.now.count starts.now picks.new result }
 {
     let mut heads = [0u16; 256];
     let mut links = [0u16; 256];
-    chain(w, k, names, &mut heads, &mut links);
+    let chains = Chains::of(*w, &mut heads, &mut links);
     let mut total = 0;
-    let mut j = 0;
-    while j < n {
-        let q = wide(reading[j]);
-        let y = wide(called[j]);
-        let p = pick(w, k, places, names, &heads, &links, r, q, y, j);
-        if !p.ok {
-            return p;
-        }
-        let i = p.value;
+    for j in 0..r.count {
+        let q = usize::from(r.places[j]);
+        let name = r.name(j).unwrap();
+        let i = pick(&chains, r.d, q, name, j)?;
         picks[j] = i as u8;
-        total += position(starts[i + 1]) - position(starts[i]);
-        j += 1;
+        total += (starts[i + 1] - starts[i]) as usize;
     }
-    accept(n, total, 0)
+    Ok(total)
 }

@@ -1,5 +1,5 @@
 -- The members of a list by the marks of their names. Members are counted from 1, 0 being none.
-use Rattle.std.specs.Prelude.{◌≡◌, Bool, true, false, cond, List, ℕ, zero, suc, ◌+◌, ◌-◌, ◌*◌, ◌/◌, ◌%◌, ◌≤◌, ◌<◌, ltb, eqb, length, get_or}
+use Rattle.std.specs.Prelude.{◌≡◌, Bool, true, false, cond, Option, None, Some, List, ℕ, zero, suc, ◌+◌, ◌-◌, ◌*◌, ◌/◌, ◌%◌, ◌≤◌, ◌<◌, ltb, eqb, length, get_or}
 use Rattle.descriptor.specs.Tree.{Name, unnamed, named}
 use Rattle.number.specs.Endian.{be}
 use Rattle.members.specs.inner.Names.{named_at}
@@ -26,10 +26,13 @@ unfoldable pub last_of : (Name → Bool) → List ℕ → List ℕ → ℕ → �
 last_of test d names zero = 0
 last_of test d names (suc i) = cond (test (named_at d (get_or names i 0))) (suc i) (last_of test d names i)
 
--- nothing is chained yet
-pub record Unchained (heads links : List ℕ) : Type 0 where
-  pub wide : length heads ≡ 256
-  pub long : length links ≡ 256
+-- the member that an entry of the columns names
+abbrev pub member : ℕ → Option ℕ
+member zero = None
+member (suc i) = Some i
+
+-- no mark has a member yet
+pub record Unchained (heads : List ℕ) : Type 0 where
   pub none : (m : ℕ) → m < 256 → get_or heads m 0 ≡ 0
 
 -- each of the first n members is linked to the one of its mark before it
@@ -41,7 +44,7 @@ pub record Chained (d names : List ℕ) (n : ℕ) (heads links : List ℕ) : Typ
   pub last : (m : ℕ) → m < 256 → get_or heads m 0 ≡ last_of (has_mark m) d names n
   pub linked : Linked d names n links
 
--- i is none, or one of the first n members, whose name has the mark m
-pub record Marked (d names : List ℕ) (n m i : ℕ) : Type 0 where
-  pub most : i ≤ n
-  pub is : 0 < i → has_mark m (named_at d (get_or names (i - 1) 0)) ≡ true
+-- the entry names no member, or one of the first n, whose name has the mark m
+pub record Marked (d names : List ℕ) (n m entry : ℕ) : Type 0 where
+  pub most : entry ≤ n
+  pub is : (i : ℕ) → member entry ≡ Some i → has_mark m (named_at d (get_or names i 0)) ≡ true

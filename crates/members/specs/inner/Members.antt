@@ -23,6 +23,10 @@ pub record Members (d : List ℕ) (k p : ℕ) : Type 0 where
 abbrev pub top_at : List ℕ → ℕ
 top_at d = (inside_of d 0).at
 
+-- how many members it has then
+abbrev pub top_count : List ℕ → ℕ
+top_count d = (inside_of d 0).children
+
 -- where descriptor i of those that stand in a row from p on stands
 unfoldable pub place_from : List ℕ → ℕ → ℕ → ℕ
 place_from d p zero = p
@@ -43,3 +47,9 @@ name_from d p i = (row_from d p i).name_place
 -- the first k entries of the column are f's
 pub record Column (f : ℕ → ℕ) (k : ℕ) (column : List ℕ) : Type 0 where
   pub at : (i : ℕ) → i < k → get_or column i 0 ≡ f i
+
+-- d is a cluster of k members, and the columns have their places and their names'
+pub record Listed (d : List ℕ) (k : ℕ) (places names : List ℕ) : Type 0 where
+  pub members : Members d k (top_at d)
+  pub standing : Column (place_from d (top_at d)) k places
+  pub naming : Column (name_from d (top_at d)) k names

@@ -1,10 +1,12 @@
--- The data of a cluster's members, by number: where each one's starts; and the column in which the code keeps this.
-use Rattle.std.specs.Prelude.{◌≡◌, true, List, [], ◌∷◌, ℕ, zero, suc, length}
+-- The data of a cluster's members, by number: where each one's starts.
+use Rattle.std.specs.Prelude.{List, [], ◌∷◌, ℕ, zero, suc, Result, Ok, Err}
+use Rattle.descriptor.specs.Outcome.{Outcome, refused, read}
 use Rattle.descriptor.specs.inner.Standing.{next_of}
-use Rattle.descriptor.specs.declared.step.Step.{Step}
+use Rattle.descriptor.specs.inner.Steps.{refusal_at}
+use Rattle.descriptor.specs.declared.refusal.Refusal.{Refusal}
 use Rattle.flattened.specs.Order.{big}
 use Rattle.flattened.specs.Walk.{walk}
-use Rattle.members.specs.inner.Members.{type_from, row_from, Column}
+use Rattle.members.specs.inner.Members.{type_from, row_from}
 use Rattle.resolution.specs.Record.{Member}
 
 -- where the data of descriptor i of those that stand in a row from p on starts, that of the first starting at 0
@@ -21,7 +23,12 @@ unfoldable pub members_for : List ℕ → ℕ → List ℕ → ℕ → ℕ → L
 members_for d p s i zero = []
 members_for d p s i (suc n) = member_from d p s i ∷ members_for d p s (suc i) n
 
--- where the walk r was read, the column has the starts of k descriptors' data and where the last ends
-pub record Starts (f : ℕ → ℕ) (k : ℕ) (column : List ℕ) (r : Step) : Type 0 where
-  pub all : r.ok ≡ true → Column f (suc k) column
-  pub long : length column ≡ 257
+-- where what was read ends
+abbrev pub end_of : {A : Type 0} → Outcome A → Result ℕ Refusal
+end_of (refused number place) = Err (refusal_at number place)
+end_of (read at x) = Ok at
+
+-- whether it was read
+abbrev pub passed : {A : Type 0} → Outcome A → Result (Unit {0}) Refusal
+passed (refused number place) = Err (refusal_at number place)
+passed (read at x) = Ok tt

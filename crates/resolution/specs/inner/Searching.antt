@@ -1,16 +1,10 @@
 -- What the search for a name among the members of a cluster finds, by their numbers.
 use Rattle.std.specs.Prelude.{◌≡◌, List, ℕ}
 use Rattle.descriptor.specs.Tree.{empty, named, Tree, node, nil}
-use Rattle.members.specs.inner.Members.{Members, top_at, place_from, name_from, Column}
+use Rattle.members.specs.inner.Members.{top_at}
 use Rattle.resolution.specs.Record.{Member, namesakes, searched}
 use Rattle.resolution.specs.inner.Data.{members_for}
 use Rattle.resolution.specs.declared.Search.{Search}
-
--- d is a cluster of k members, and the columns have their places and their names'
-pub record Listed (d : List ℕ) (k : ℕ) (places names : List ℕ) : Type 0 where
-  pub members : Members d k (top_at d)
-  pub standing : Column (place_from d (top_at d)) k places
-  pub naming : Column (name_from d (top_at d)) k names
 
 -- all k members of the cluster w, whose data is s
 abbrev pub all_members : List ℕ → ℕ → List ℕ → List Member
