@@ -12,9 +12,9 @@ use Rattle.descriptor.specs.inner.Steps.{refusal_at}
 use Rattle.canonical.specs.Equality.{same_chars}
 use Rattle.canonical.proofs.Same.{chars-same, chars-refl}
 use Rattle.encoding.proofs.Slices.{slice-split}
+use Rattle.resolution.specs.inner.Data.{passed}
 use Rattle.store.specs.Layout.{entry_place}
 use Rattle.store.specs.Check.{zero_at, unused_at}
-use Rattle.store.specs.inner.Runs.{cleared}
 
 module _ (s : List ℕ) where
   -- one entry
@@ -48,19 +48,19 @@ module _ (s : List ℕ) where
   -- as the code asks of c entries, from n on
   module _ (n c : ℕ) (room : entry_place c ≤ length s) where
     pub unused-all : n ≤ c → (p : ℕ) → p ≡ entry_place n
-        → same_chars (slice p (p + 16 * (c - n)) s) (replicate (16 * (c - n)) 0) ≡ true → Ok tt ≡ cleared (unused_at s (c - n) n)
+        → same_chars (slice p (p + 16 * (c - n)) s) (replicate (16 * (c - n)) 0) ≡ true → Ok tt ≡ passed (unused_at s (c - n) n)
     unused-all h p is e =
         let zeros : slice (entry_place n) (entry_place n + 16 * (c - n)) s ≡ replicate (16 * (c - n)) 0 =
         ap (λ (q : ℕ). slice q (q + 16 * (c - n)) s) (sym is) ∙ chars-same _ _ e in
-        sym (ap cleared (unused-zero (c - n) n (omega arith) zeros))
+        sym (ap passed (unused-zero (c - n) n (omega arith) zeros))
 
     -- what is left from entry i on is what was left from the first
     module _ (i : ℕ) (rest : unused_at s (c - i) i ≡ unused_at s (c - n) n) where
-      pub unused-over : c ≤ i → Ok tt ≡ cleared (unused_at s (c - n) n)
+      pub unused-over : c ≤ i → Ok tt ≡ passed (unused_at s (c - n) n)
       unfolding unused_at
       unused-over over =
           let none : c - i ≡ 0 = omega arith in
-          ap cleared (sym (ap (λ (k : ℕ). unused_at s k i) none) ∙ rest)
+          ap passed (sym (ap (λ (k : ℕ). unused_at s k i) none) ∙ rest)
 
       module _ (more : i < c) (p : ℕ) (is : p ≡ entry_place i) where
         turn : and_then (zero_at s i) (λ _ _. unused_at s (c - (i + 1)) (i + 1)) ≡ unused_at s (c - n) n
@@ -72,5 +72,5 @@ module _ (s : List ℕ) where
         pub unused-next : same_chars (slice p (p + 16) s) (replicate 16 0) ≡ true → unused_at s (c - (i + 1)) (i + 1) ≡ unused_at s (c - n) n
         unused-next e = rw (zero-so i (rw is at e)) at turn
 
-        pub unused-bad : same_chars (slice p (p + 16) s) (replicate 16 0) ≡ false → Err (refusal_at 63 i) ≡ cleared (unused_at s (c - n) n)
-        unused-bad e = ap cleared (rw (zero-not i (rw is at e)) at turn)
+        pub unused-bad : same_chars (slice p (p + 16) s) (replicate 16 0) ≡ false → Err (refusal_at 63 i) ≡ passed (unused_at s (c - n) n)
+        unused-bad e = ap passed (rw (zero-not i (rw is at e)) at turn)

@@ -21,11 +21,9 @@ use Rattle.descriptor.specs.Check.{header_at, count_at, fields_read, contents_at
 use Rattle.descriptor.specs.Width.{width_of}
 use Rattle.descriptor.specs.inner.Standing.{standing, is_read}
 use Rattle.descriptor.specs.Answers.{refusal}
-use Rattle.descriptor.specs.inner.Steps.{counted}
 use Rattle.descriptor.specs.declared.refusal.Refusal.{Refusal}
-use Rattle.descriptor.specs.declared.step.Step.{Step}
 use Rattle.descriptor.proofs.Outcomes.{Holds, nothing, found, holds_read, holds-require}
-use Rattle.descriptor.proofs.Steps.{impossible, got, lost}
+use Rattle.descriptor.proofs.Steps.{impossible}
 use Rattle.canonical.specs.Equality.{same_tree}
 use Rattle.canonical.specs.inner.Walk.{Accepted}
 use Rattle.canonical.proofs.Same.{same-tree}
@@ -33,15 +31,15 @@ use Rattle.encoding.proofs.Slices.{slice-take}
 use Rattle.flattened.specs.Order.{big}
 use Rattle.flattened.specs.Walk.{scalar_at, walk_fields, walk, walked}
 use Rattle.flattened.specs.inner.Types.{type_of, type_at}
-use Rattle.members.specs.inner.Members.{top_at, place_from, type_from}
-use Rattle.members.specs.inner.Names.{name_of, chars_at, named_at}
+use Rattle.members.specs.inner.Members.{top_at, top_count, place_from, type_from}
+use Rattle.members.specs.inner.Names.{name_of}
 use Rattle.members.proofs.Listing.{member-inner}
 use Rattle.resolution.specs.Record.{Member, writer_members, reader_members, is_among, reader_names, reader_fields, namesakes, member_found, member_bytes, joined_bytes, record_bytes}
-use Rattle.resolution.specs.inner.Data.{data_from}
+use Rattle.resolution.specs.inner.Data.{data_from, passed}
 use Rattle.resolution.specs.inner.Searching.{all_members}
-use Rattle.resolution.specs.inner.Picking.{Called}
-use Rattle.store.specs.Shim.{Picked, Unpicked}
-use Rattle.resolution.specs.inner.Tops.{is_cluster, top_count}
+use Rattle.resolution.specs.inner.Picking.{Called, Picked, Unpicked}
+use Rattle.resolution.specs.inner.Tops.{is_cluster}
+use Rattle.resolution.proofs.Ends.{passed-lost, passed-got}
 use Rattle.resolution.proofs.Apart.{apart-formed}
 use Rattle.records.proofs.Topmost.{top-tree, top-members, writers-none}
 use Rattle.records.proofs.Answering.{member-data, members-are}
@@ -67,15 +65,10 @@ shape-type : type_at shape 6 ≡ blank_type
 unfolding type_of standing be kind_of child_count row_count forest_rows header_at count_at fields_read contents_at filled_at fields_at members_at name_at node_at tree_at
 shape-type = refl
 
--- where the shape's one member and its name stand
-pub shape-called : Called shape 6 11
-unfolding type_of is_read standing be kind_of child_count row_count forest_rows header_at count_at fields_read contents_at filled_at fields_at members_at name_at node_at tree_at name_of chars_at named_at
-shape-called = record {
-  inner = record { here = record { is = refl; small = omega arith }; short = omega arith };
-  some = omega arith;
-  fits = record { within = λ _. omega arith; short = omega arith };
-  name = refl;
-}
+-- where the shape's one member stands, and its name
+pub shape-called : Called shape 6 (98 ∷ 108 ∷ 97 ∷ 110 ∷ 107 ∷ [])
+unfolding type_of is_read standing be kind_of child_count row_count forest_rows header_at count_at fields_read contents_at filled_at fields_at members_at name_at node_at tree_at name_of
+shape-called = record { inner = record { here = record { is = refl; small = omega arith }; short = omega arith }; name = refl }
 
 blank-formed : WellFormed false blank_type
 unfolding WellFormed FieldsFit NameFits Bytes kind_of forest_length child_count
@@ -138,7 +131,7 @@ module _ (d : List ℕ) (a : Accepted d) where
 
     -- no member carries it
     pub carries-lost : (p : Refusal) → Unpicked d (top_count d) (type_at shape 6) 0 p → Bare d (refusal p.number 2 p.place)
-    carries-lost p picks = record { lost = λ x w. by-member x w ∙ ap (by_member x) (rw shape-type at (picks.lost x)) }
+    carries-lost p picks = record { lost = λ x w. by-member x w ∙ ap (by_member x) (rw shape-type at (picks.is x)) }
 
     module _ (m : ℕ) (picks : Picked d (top_count d) (type_at shape 6) 0 m) (bytes : (n : ℕ) → get_or d n 0 < 256) where
       -- its type
@@ -146,7 +139,7 @@ module _ (d : List ℕ) (a : Accepted d) where
       type-is =
           let inner = member-inner d (top_count d) (top_at d) (top-members d a cluster) m picks.within in
           let same : same_tree blank_type (type_from d (top_at d) m) ≡ true =
-          holds_read (rw shape-type at (picks.got [])) (found-same 0 blank_type (namesakes blank_type (all_members d (top_count d) []))) in
+          holds_read (rw shape-type at (picks.is [])) (found-same 0 blank_type (namesakes blank_type (all_members d (top_count d) []))) in
           sym (same-tree blank_type (type_from d (top_at d) m) false false blank-formed (apart-formed d (place_from d (top_at d) m) inner bytes) same)
 
       -- its data
@@ -169,7 +162,7 @@ module _ (d : List ℕ) (a : Accepted d) where
         cluster = cluster;
         within = picks.within;
         room = λ x w. (ends x w).1;
-        says = λ x w. by-member x w ∙ ap (by_member x) (rw shape-type at (picks.got x)) ∙ ap granted (spelled x w);
+        says = λ x w. by-member x w ∙ ap (by_member x) (rw shape-type at (picks.is x)) ∙ ap granted (spelled x w);
       }
 
 -- a descriptor that is refused
@@ -179,13 +172,13 @@ descriptor-denied d x number place e = rw e refl
 
 -- what the walk of the data says
 module _ (d x : List ℕ) where
-  pub walk-denied : Accepted d → (e : Refusal) → Err e ≡ counted (λ _. 0) (walked big (type_at d 0) x) → identified d x ≡ denied e.number 3 e.place
-  walk-denied a e walks = data-denied d a x _ _ (lost (λ _. 0) (λ _. 0) (walked big (type_at d 0) x) e walks)
+  pub walk-denied : Accepted d → (e : Refusal) → Err e ≡ passed (walked big (type_at d 0) x) → identified d x ≡ denied e.number 3 e.place
+  walk-denied a e walks = data-denied d a x _ _ (passed-lost (walked big (type_at d 0) x) e walks)
 
-  pub walked-data : (w : Step) → Ok w ≡ counted (λ _. 0) (walked big (type_at d 0) x) → DataOf d x
-  walked-data w walks =
-      let g = got (λ _. 0) (λ _. 0) (walked big (type_at d 0) x) w walks in
-      record { end = w.next; tokens = g.value; eq = g.eq }
+  pub walked-data : Ok tt ≡ passed (walked big (type_at d 0) x) → DataOf d x
+  walked-data walks =
+      let g = passed-got (walked big (type_at d 0) x) walks in
+      record { end = g.0; tokens = g.1.0; eq = g.1.1 }
 
 -- a table has room for every member
 pub starts-few : (d : List ℕ) → Accepted d → (m : ℕ) → Bears d m → m < 256

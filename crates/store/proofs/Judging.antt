@@ -3,7 +3,7 @@
 use mathlib.Core.Path.{◌≡◌, refl, sym, ap, ◌∙◌}
 use mathlib.Core.Bool.{Bool, true, false}
 use mathlib.Core.List.{List}
-use Prim.Native.Nat.{ℕ, suc, ◌+◌, ◌≤◌, ◌<◌}
+use Prim.Native.Nat.{ℕ, ◌+◌, ◌≤◌, ◌<◌}
 use native.Mathlib.Omega.{arith}
 use lib.Dec.{eqb}
 use lib.ListN.{length, get_or}
@@ -17,18 +17,16 @@ use Rattle.number.specs.Endian.{be}
 use Rattle.descriptor.specs.Tree.{Tree}
 use Rattle.descriptor.specs.Outcome.{Outcome, refused, read, Verdict, denied}
 use Rattle.descriptor.specs.Check.{checked}
-use Rattle.descriptor.specs.inner.Steps.{counted}
 use Rattle.descriptor.specs.declared.answer.Answer.{Answer}
 use Rattle.descriptor.specs.declared.refusal.Refusal.{Refusal}
-use Rattle.descriptor.specs.declared.step.Step.{Step}
 use Rattle.canonical.specs.inner.Walk.{Accepted}
 use Rattle.flattened.specs.Order.{big}
 use Rattle.flattened.specs.Token.{Token}
 use Rattle.flattened.specs.Walk.{walked}
 use Rattle.flattened.specs.inner.Types.{type_at}
-use Rattle.members.specs.inner.Members.{top_at, Column}
-use Rattle.resolution.specs.inner.Data.{data_from}
-use Rattle.resolution.specs.inner.Tops.{is_cluster, top_count}
+use Rattle.members.specs.inner.Members.{top_at}
+use Rattle.resolution.specs.inner.Data.{data_from, passed}
+use Rattle.resolution.specs.inner.Tops.{TopStarts}
 use Rattle.store.specs.Book.{identified}
 use Rattle.store.specs.Check.{says}
 use Rattle.store.specs.inner.Identity.{DataOf, Bare}
@@ -46,6 +44,10 @@ at-ok (Err y) e f = absurd (cc)
 pub at-err : {A E P : Type 0} (r : Result A E) → is_err r ≡ true → ((y : E) → r ≡ Err y → P) → P
 at-err (Ok x) e f = absurd (cc)
 at-err (Err y) e f = f y refl
+
+ok-unit : {E : Type 0} (r : Result (Unit {0}) E) → is_err r ≡ false → r ≡ Ok tt
+ok-unit (Ok tt) e = refl
+ok-unit (Err y) e = absurd (cc)
 
 -- nothing that was refused says an identifier
 denied-says : (id : ℕ) (v : Verdict ℕ) (number input place : ℕ) → v ≡ denied number input place → says id v ≡ false
@@ -117,16 +119,19 @@ module _ (d : List ℕ) (m : ℕ) (span : Option Span) (good : ∥ Good d m span
         once-said = said once.place fine (λ g. (steady g).placed x (fine g))
 
     -- where it was walked
-    pub walked-lost : (e : Refusal) → Err e ≡ counted (λ _. 0) (walked big (type_at d 0) x) → false ≡ says id (identified d x)
-    walked-lost e walks = sym (denied-says id (identified d x) e.number 3 e.place (walk-denied d x good-accepted e walks))
+    module _ (w : Result (Unit {0}) Refusal) (walks : w ≡ passed (walked big (type_at d 0) x)) where
+      pub walked-lost : is_err w ≡ true → false ≡ says id (identified d x)
+      walked-lost off = at-err w off (λ e is. sym (denied-says id (identified d x) e.number 3 e.place (walk-denied d x good-accepted e (sym is ∙ walks))))
 
-    module _ (w : Step) (walks : Ok w ≡ counted (λ _. 0) (walked big (type_at d 0) x)) (starts : List ℕ)
-        (begun : is_cluster d ≡ true → Column (data_from d (top_at d) x) (suc (top_count d)) starts) (at : ℕ) (so : at ≡ get_or starts m 0) where
-      place : Good d m span → data_from d (top_at d) x m ≡ at
-      place g = sym (so ∙ (begun g.bears.cluster).at m (omega (arith, g.bears.within)))
+      module _ (on : is_err w ≡ false) (starts : List ℕ) (begun : TopStarts d x starts w) (at : ℕ) (so : at ≡ get_or starts m 0) where
+        fits : DataOf d x
+        fits = walked-data d x (sym (ok-unit w on) ∙ walks)
 
-      pub walked-room : at + 4 ≤ length x
-      walked-room = room at (λ _. walked-data d x w walks) place
+        place : Good d m span → data_from d (top_at d) x m ≡ at
+        place g = sym (so ∙ ((rw (ok-unit w on) at begun) g.bears.cluster).at m (omega (arith, g.bears.within)))
 
-      pub walked-said : (n : ℕ) → n ≡ be x at 4 → eqb n id ≡ says id (identified d x)
-      walked-said = said at (λ _. walked-data d x w walks) place
+        pub walked-room : at + 4 ≤ length x
+        walked-room = room at (λ _. fits) place
+
+        pub walked-said : (n : ℕ) → n ≡ be x at 4 → eqb n id ≡ says id (identified d x)
+        walked-said = said at (λ _. fits) place

@@ -43,7 +43,7 @@ pub marked_more : (s : List ℕ) (i : ℕ) (marks : List Bool) → length marks 
     → Marked s (i + 1) (set marks (mark_of id) true)
 marked_more s i marks long marked id is = record {
   each = below_more (λ j. get_or (set marks (mark_of id) true) (mark_of (name_at s j)) false ≡ true) i
-  (λ j h. kept j h (eqb (mark_of (name_at s j)) (mark_of id)) refl) (last (mark_of (name_at s i)) (ap mark_of (sym is)));
+      (λ j h. kept j h (eqb (mark_of (name_at s j)) (mark_of id)) refl) (last (mark_of (name_at s i)) (ap mark_of (sym is)));
 }
   where
     last : (m : ℕ) → m ≡ mark_of id → get_or (set marks (mark_of id) true) m false ≡ true

@@ -11,6 +11,7 @@ use Rattle.std.specs.Prelude.{Result, Ok, Err}
 use Rattle.descriptor.specs.Outcome.{Outcome, refused, read, and_then}
 use Rattle.descriptor.specs.inner.Steps.{refusal_at}
 use Rattle.descriptor.specs.declared.refusal.Refusal.{Refusal}
+use Rattle.resolution.specs.inner.Data.{end_of}
 use Rattle.store.specs.Book.{identified, Blank, stop_of, is_one_of}
 use Rattle.store.specs.Layout.{entry_place}
 use Rattle.store.specs.Check.{blank_at, says, is_blank, entry_fits, entry_at, entries_at}
@@ -18,16 +19,16 @@ use Rattle.store.specs.inner.Entries.{name_at, seen_before}
 use Rattle.store.specs.inner.Marks.{mark_count, mark_of, Marked}
 use Rattle.store.specs.inner.Blanks.{blank_of, body_lies, body_fits, Laid}
 use Rattle.store.specs.inner.Judging.{Mute}
-use Rattle.store.specs.inner.Runs.{ended, Left, Ran}
+use Rattle.store.specs.inner.Runs.{Left, Ran}
 use Rattle.store.specs.declared.blank.Blank.{Blank as Lent}
 use Rattle.store.specs.declared.runs.Run.{Run}
 use Rattle.store.proofs.Marking.{unmarked, new-unseen, marked-none, marked_more}
 use Rattle.store.proofs.Laying.{entry-fits, body-away, body-said}
 
 -- one record more ends where the others do
-ended-more : (r : Blank) (o : Outcome (List Blank)) → ended (and_then o (λ end rs. read end (r ∷ rs))) ≡ ended o
-ended-more r (refused number place) = refl
-ended-more r (read end rs) = refl
+end-more : (r : Blank) (o : Outcome (List Blank)) → end_of (and_then o (λ end rs. read end (r ∷ rs))) ≡ end_of o
+end-more r (refused number place) = refl
+end-more r (read end rs) = refl
 
 -- a record whose descriptor was judged
 module _ (r : Lent) where
@@ -59,10 +60,10 @@ module _ (s : List ℕ) (n : ℕ) (whole : Result ℕ Refusal) (marks : List Boo
     abbrev seen : List ℕ
     seen = seen_before s i
 
-    turn : ended (entries_at s seen (suc (n - (i + 1))) i run.at) ≡ whole
+    turn : end_of (entries_at s seen (suc (n - (i + 1))) i run.at) ≡ whole
     turn =
         let left : suc (n - (i + 1)) ≡ n - i = omega arith in
-        ap (λ (k : ℕ). ended (entries_at s seen k i run.at)) left ∙ l.rest
+        ap (λ (k : ℕ). end_of (entries_at s seen k i run.at)) left ∙ l.rest
 
     -- a bad entry
     bad : entry_fits s seen (entry_place i) run.at ≡ false → Err (refusal_at 63 i) ≡ whole
@@ -100,15 +101,15 @@ module _ (s : List ℕ) (n : ℕ) (whole : Result ℕ Refusal) (marks : List Boo
           abbrev others : ℕ → Outcome (List Blank)
           others next = entries_at s (name_at s i ∷ seen) (n - (i + 1)) (i + 1) next
 
-          once : ended (and_then (others (stop_of (blank_at s (entry_place i)))) (λ end rs. read end (blank_at s (entry_place i) ∷ rs))) ≡ whole
+          once : end_of (and_then (others (stop_of (blank_at s (entry_place i)))) (λ end rs. read end (blank_at s (entry_place i) ∷ rs))) ≡ whole
           unfolding entries_at entry_at blank_at
           once = rw good at turn
 
-          onwards : (at : ℕ) → at ≡ stop_of (blank_of r) → ended (entries_at s (seen_before s (i + 1)) (n - (i + 1)) (i + 1) at) ≡ whole
+          onwards : (at : ℕ) → at ≡ stop_of (blank_of r) → end_of (entries_at s (seen_before s (i + 1)) (n - (i + 1)) (i + 1) at) ≡ whole
           unfolding seen_before
           onwards at is =
-              ap₂ (λ (k q : ℕ). ended (entries_at s (seen_before s k) (n - (i + 1)) (i + 1) q)) (add-one i) (is ∙ ap stop_of laid.is)
-              ∙ sym (ended-more (blank_at s (entry_place i)) (others (stop_of (blank_at s (entry_place i)))))
+              ap₂ (λ (k q : ℕ). end_of (entries_at s (seen_before s k) (n - (i + 1)) (i + 1) q)) (add-one i) (is ∙ ap stop_of laid.is)
+              ∙ sym (end-more (blank_at s (entry_place i)) (others (stop_of (blank_at s (entry_place i)))))
               ∙ once
 
           pub left-next : length marks ≡ mark_count → (at : ℕ) → at ≡ stop_of (blank_of r)
@@ -121,12 +122,12 @@ module _ (s : List ℕ) (n : ℕ) (whole : Result ℕ Refusal) (marks : List Boo
 
 -- all of them
 pub left-begin : (s : List ℕ) (n from : ℕ) (marks : List Bool)
-    → Left s n (ended (entries_at s [] n 0 from)) marks (record { next = 0; at = from })
+    → Left s n (end_of (entries_at s [] n 0 from)) marks (record { next = 0; at = from })
 unfolding seen_before
 left-begin s n from marks = record {
   most = omega arith;
   marked = marked-none s marks;
-  rest = ap (λ (k : ℕ). ended (entries_at s [] k 0 from)) (sub-zero n);
+  rest = ap (λ (k : ℕ). end_of (entries_at s [] k 0 from)) (sub-zero n);
 }
 
 -- a run goes on over an entry that is like the others and whose mark was not met

@@ -28,10 +28,9 @@ use Rattle.flattened.proofs.Types.{RowTurn, type-size}
 use Rattle.flattened.proofs.Extents.{walk-takes}
 use Rattle.flattened.proofs.ExtentTurns.{Small, type-few}
 use Rattle.elements.proofs.Keeping.{calm-kept}
-use Rattle.members.specs.inner.Members.{top_at, place_from, type_from}
+use Rattle.members.specs.inner.Members.{top_at, top_count, place_from, type_from}
 use Rattle.members.proofs.InRow.{turn_at}
 use Rattle.resolution.specs.inner.Data.{data_from}
-use Rattle.resolution.specs.inner.Tops.{top_count}
 use Rattle.records.proofs.Topmost.{stands, top-short, top-members}
 use Rattle.records.proofs.Answering.{member-data}
 use Rattle.store.specs.inner.Identity.{DataOf, Bears}

@@ -10,39 +10,14 @@ use Rattle.number.specs.Endian.{be}
 use Rattle.descriptor.specs.Outcome.{Outcome, refused, read}
 use Rattle.descriptor.specs.declared.refusal.Refusal.{Refusal}
 use Rattle.descriptor.proofs.Outcomes.{holds_read}
+use Rattle.resolution.specs.inner.Data.{end_of, passed}
+use Rattle.resolution.proofs.Ends.{end-lost, end-got, passed-lost, passed-got}
 use Rattle.store.specs.Book.{Blank, Book}
 use Rattle.store.specs.Layout.{book_limit, entry_place}
 use Rattle.store.specs.Check.{entries_at, unused_at, filled, opened}
-use Rattle.store.specs.inner.Runs.{ended, cleared}
 use Rattle.store.specs.inner.Opens.{Open}
 use Rattle.store.specs.declared.open.Book.{Book as Opened}
 use Rattle.store.proofs.Reading.{opened-read, length-blanks}
-
--- an outcome by where it ended
-record Ended {A : Type 0} (o : Outcome A) (end : ℕ) : Type 0 where
-  value : A
-  is : o ≡ read end value
-
-ended-read : {A : Type 0} (o : Outcome A) (end : ℕ) → Ok end ≡ ended o → Ended o end
-ended-read (refused number place) end e = absurd (cc)
-ended-read (read next x) end e = let same : end ≡ next = cc in record { value = x; is = ap (λ (k : ℕ). read k x) (sym same) }
-
-ended-refused : {A : Type 0} (o : Outcome A) (r : Refusal) → Err r ≡ ended o → o ≡ refused r.number r.place
-ended-refused (refused number place) r e =
-    let same : r ≡ record { number = number; place = place } = cc in
-    ap (λ (x : Refusal). refused x.number x.place) (sym same)
-ended-refused (read next x) r e = absurd (cc)
-
--- an outcome by whether it was read
-cleared-read : (o : Outcome (Unit {0})) → Ok tt ≡ cleared o → (next : ℕ) × (o ≡ read next tt)
-cleared-read (refused number place) e = absurd (cc)
-cleared-read (read next x) e = (next, refl)
-
-cleared-refused : (o : Outcome (Unit {0})) (r : Refusal) → Err r ≡ cleared o → o ≡ refused r.number r.place
-cleared-refused (refused number place) r e =
-    let same : r ≡ record { number = number; place = place } = cc in
-    ap (λ (x : Refusal). refused x.number x.place) (sym same)
-cleared-refused (read next x) r e = absurd (cc)
 
 filled-read : (s : List ℕ) (c n end q : ℕ) (rs : List Blank) → entries_at s [] n 0 (entry_place c) ≡ read end rs → unused_at s (c - n) n ≡ read q tt
     → filled s c n ≡ read end (record { capacity = c; blanks = rs })
@@ -71,24 +46,24 @@ module _ (s : List ℕ) where
       fill = rw (le-leb 4 (length s) least, le-leb (length s) book_limit most, ← ec, ← en, le-leb (entry_place c) (length s) room, le-leb n c fits) refl
 
       -- a bad entry in use
-      pub open-bad : (r : Refusal) → Err r ≡ ended (entries_at s [] n 0 (entry_place c)) → opened s ≡ refused r.number r.place
+      pub open-bad : (r : Refusal) → Err r ≡ end_of (entries_at s [] n 0 (entry_place c)) → opened s ≡ refused r.number r.place
       unfolding filled
-      open-bad r e = fill ∙ rw (ended-refused _ r e) refl
+      open-bad r e = fill ∙ rw (end-lost _ r e) refl
 
-      module _ (end : ℕ) (used : Ok end ≡ ended (entries_at s [] n 0 (entry_place c))) where
+      module _ (end : ℕ) (used : Ok end ≡ end_of (entries_at s [] n 0 (entry_place c))) where
         -- an unused one that is not zero
-        pub open-dirty : (r : Refusal) → Err r ≡ cleared (unused_at s (c - n) n) → opened s ≡ refused r.number r.place
+        pub open-dirty : (r : Refusal) → Err r ≡ passed (unused_at s (c - n) n) → opened s ≡ refused r.number r.place
         unfolding filled
-        open-dirty r e = fill ∙ rw ((ended-read _ end used).is, cleared-refused _ r e) refl
+        open-dirty r e = fill ∙ rw ((end-got _ end used).1, passed-lost _ r e) refl
 
         -- none of these
-        pub open_done : Ok tt ≡ cleared (unused_at s (c - n) n) → (b : Opened) → b.entries.bytes.now ≡ s → b.entries.count ≡ n → b.capacity ≡ c
+        pub open_done : Ok tt ≡ passed (unused_at s (c - n) n) → (b : Opened) → b.entries.bytes.now ≡ s → b.entries.count ≡ n → b.capacity ≡ c
             → b.end ≡ end → Open s b
         open_done e b bytes count capacity at =
-            let rs = ended-read (entries_at s [] n 0 (entry_place c)) end used in
-            let book : Book = record { capacity = c; blanks = rs.value } in
-            let unused = cleared-read (unused_at s (c - n) n) e in
-            let is : opened s ≡ read end book = fill ∙ filled-read s c n end unused.0 rs.value rs.is unused.1 in
+            let rs = end-got (entries_at s [] n 0 (entry_place c)) end used in
+            let book : Book = record { capacity = c; blanks = rs.0 } in
+            let unused = passed-got (unused_at s (c - n) n) e in
+            let is : opened s ≡ read end book = fill ∙ filled-read s c n end unused.0 rs.0 rs.1 unused.1.1 in
             let known = holds_read is (opened-read s) in
             record {
               book = book;

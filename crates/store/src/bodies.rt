@@ -1,5 +1,5 @@
 // The body of a record whose descriptor was judged: its data decides.
-ghost use Rattle.std.specs.Prelude.{◌≡◌, Some, length};
+ghost use Rattle.std.specs.Prelude.{◌≡◌, Some};
 ghost use Rattle.store.specs.Book.{identified};
 ghost use Rattle.store.specs.Check.{says};
 
@@ -22,9 +22,7 @@ pub fn says_at_once(d: Judged, span: Span, r: Blank) -> bool
 
 // The same of any data under the judged descriptor, by walking it.
 pub fn says_walked(d: Judged, r: Blank, starts: &mut [u32; 257]) -> bool
-    requires { length starts.old ≡ 257 }
-    ensures said { result ≡ says r.entry.identifier (identified d.entry.bytes.now r.entry.flattened.now) }
-    ensures long { length starts.new ≡ 257 }
+    ensures { result ≡ says r.entry.identifier (identified d.entry.bytes.now r.entry.flattened.now) }
 {
     if walk_top(d.bytes, r.flattened, starts).is_err() {
         return false;

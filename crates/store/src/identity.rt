@@ -5,17 +5,16 @@ ghost use Rattle.store.specs.Book.{identified};
 ghost use Rattle.store.specs.inner.Identity.{told, Carries};
 
 use descriptor::answer::{Answer, Input};
-use descriptor::inside::inside_of;
 use descriptor::refusal::Fault;
-use members::chains::chain;
-use members::columns::list_members;
+use members::chains::Chains;
+use members::roster::Roster;
 use number::endian::be32;
 use records::top::{is_cluster, walk_top};
 use resolution::picking::pick;
 use validation::validate::validate;
 
-// The number of the member of an accepted descriptor that the reader's shape asks for: 41, then 42 to 44. In the shape, that member stands at
-// 6 and its name at 11.
+// The number of the member of an accepted descriptor that the reader's shape asks for: 41, then 42 to 44. In the shape, that member stands
+// at 6.
 pub fn carrier(d: &[u8]) -> Result<usize, Answer>
     requires { Accepted d.now }
     ensures { Carries d.now result }
@@ -23,16 +22,14 @@ pub fn carrier(d: &[u8]) -> Result<usize, Answer>
     if !is_cluster(d) {
         return Err(Answer::refused(Fault::Writer, Input::First, 0));
     }
-    let top = inside_of(d, 0);
-    let k = top.children;
     let mut places = [0u16; 256];
     let mut names = [0u16; 256];
-    list_members(d, k, top.at, &mut places, &mut names);
+    let roster = Roster::list(d, &mut places, &mut names);
     let mut heads = [0u16; 256];
     let mut links = [0u16; 256];
-    chain(d, k, &names, &mut heads, &mut links);
+    let chains = Chains::of(roster, &mut heads, &mut links);
     let shape = [0u8, 16, 0, 80, 0, 1, 0, 10, 0, 7, 5, 98, 108, 97, 110, 107];
-    match pick(d, k, &places, &names, &heads, &links, &shape, 6, 11, 0) {
+    match pick(&chains, &shape, 6, b"blank", 0) {
         Ok(member) => Ok(member),
         Err(refusal) => Err(refusal.of(Input::Second)),
     }

@@ -2,7 +2,7 @@
 ghost use Rattle.std.specs.Prelude.{◌≡◌, [], IfOk};
 ghost use Rattle.store.specs.Check.{entries_at};
 ghost use Rattle.store.specs.inner.Marks.{Marked};
-ghost use Rattle.store.specs.inner.Runs.{ended};
+ghost use Rattle.resolution.specs.inner.Data.{end_of};
 ghost use Rattle.store.specs.inner.Opens.{Opens};
 
 use super::bodies::says_walked;
@@ -24,7 +24,7 @@ pub struct Book<'a> {
 
 // The entries in use, whose bodies start at `from`: where the last body ends. They leave their marks, where none was left.
 fn check_used(entries: Entries, from: usize, marks: &mut Marks) -> Result<usize, Refusal>
-    ensures used { result ≡ ended (entries_at entries.entry.bytes.now [] entries.entry.count 0 from) }
+    ensures used { result ≡ end_of (entries_at entries.entry.bytes.now [] entries.entry.count 0 from) }
     ensures marked { IfOk result (λ _. Marked entries.entry.bytes.now entries.entry.count marks.new.met) }
 {
     let mut starts = [0u32; 257];

@@ -3,7 +3,7 @@ ghost use Rattle.std.specs.Prelude.{◌≡◌, ◌+◌, ◌-◌, ◌≤◌, leng
 ghost use Rattle.std.proofs.Math.Seq.{slice};
 ghost use Rattle.canonical.specs.Equality.{same_chars};
 ghost use Rattle.store.specs.Check.{unused_at};
-ghost use Rattle.store.specs.inner.Runs.{cleared};
+ghost use Rattle.resolution.specs.inner.Data.{passed};
 
 use super::entry::{Entries, entry_place};
 use descriptor::refusal::{Fault, Refusal};
@@ -21,7 +21,7 @@ fn is_zero(s: &[u8], from: usize, size: usize) -> bool
 // Of these entries, those from n on, which are not in use, all at once; where one is not zero, one after the other.
 pub fn check_unused(entries: Entries, n: usize) -> Result<(), Refusal>
     requires { n ≤ entries.count }
-    ensures { result ≡ cleared (unused_at entries.entry.bytes.now (entries.entry.count - n) n) }
+    ensures { result ≡ passed (unused_at entries.entry.bytes.now (entries.entry.count - n) n) }
 {
     if is_zero(entries.bytes, entry_place(n), 16 * (entries.count - n)) {
         return Ok(());

@@ -8,9 +8,9 @@ use Rattle.flattened.specs.Order.{big}
 use Rattle.flattened.specs.Token.{Token}
 use Rattle.flattened.specs.Walk.{walked}
 use Rattle.flattened.specs.inner.Types.{type_at}
-use Rattle.members.specs.inner.Members.{top_at}
+use Rattle.members.specs.inner.Members.{top_at, top_count}
 use Rattle.resolution.specs.inner.Data.{data_from}
-use Rattle.resolution.specs.inner.Tops.{is_cluster, top_count}
+use Rattle.resolution.specs.inner.Tops.{is_cluster}
 use Rattle.store.specs.Book.{identified}
 
 -- a number or a refusal, as the code hands it on

@@ -16,16 +16,10 @@ of-requires c = omega (arith, judged-place c.args.d.now _ c.in-Err.ensures)
 pub returns-in-Err : goal.returns-in-Err
 returns-in-Err c = rw (c.of.ensures, descriptor-denied c.args.d.now c.args.x.now _ _ (judged-refused c.args.d.now _ c.in-Err.ensures)) refl
 
-pub walk_top-requires-clause-accepted : goal.walk_top-requires-clause-accepted
-walk_top-requires-clause-accepted c = judged-accepted c.args.d.now _ c.in_default.ensures
-
 pub returns-in-Err-walk_top : goal.returns-in-Err-walk_top
 returns-in-Err-walk_top c =
     let d = c.args.d.now in
-    rw (c.of-in-Err-walk_top.ensures, walk-denied d c.args.x.now (judged-accepted d _ c.in_default.ensures) _ c.in-Err-walk_top.ensures.step) refl
-
-pub carrier-requires : goal.carrier-requires
-carrier-requires c = judged-accepted c.args.d.now _ c.in_default.ensures
+    rw (c.of-in-Err-walk_top.ensures, walk-denied d c.args.x.now (judged-accepted d _ c.in_default.ensures) _ c.in-Err-walk_top.ensures.whole) refl
 
 pub offset_bounds-starts-member : goal.offset_bounds-starts-member
 offset_bounds-starts-member c =
