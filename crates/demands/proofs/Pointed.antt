@@ -29,7 +29,7 @@ use Rattle.encoding.proofs.Stamps.{stamp-passes, passes-stamp}
 use Rattle.encoding.proofs.Slices.{slice-then}
 use Rattle.encoding.proofs.Sound.{Sound, members-sound, tree-sound, item-sound, items-sound, fields-sound}
 use Rattle.encoding.proofs.Complete.{name-complete}
-use Rattle.members.proofs.Filled.{each_more}
+use borrow.Author.Count.{below_more}
 use Rattle.demands.proofs.Wrong.{kind_at, end_of, Lies, Fielded, may_stand, Due, top, first, next, Bodied, Counts, of_items, of_pairs, of_dimensions, of_members, count_in, Numbered, entry_at, Items, Short, InBody, other_subtype, too_short, bad_count, bad_length, bad_dimension, bad_base, bad_fill, not_its_cluster, no_name, Wrong, not_carried, array_in_array, in_body, Fault, is_pointed}
 
 -- one item more
@@ -109,7 +109,7 @@ module _ (s : List ℕ) (bytes : Bytes s) where
     entries-refuse test wrong (suc n) i at e sum all =
         rw e
         (refuses-require (test (entry_at p i)) 10 _ (λ no. shown (wrong i (omega arith) all no)) (λ yes.
-        entries-refuse test wrong n (suc i) (entry_at p i + 4) (omega arith) (omega arith) (λ j h. each_more (λ j. test (entry_at p j) ≡ true) i all yes j (omega arith))))
+        entries-refuse test wrong n (suc i) (entry_at p i + 4) (omega arith) (omega arith) (λ j h. below_more (λ j. test (entry_at p j) ≡ true) i all yes j (omega arith))))
 
     -- the n items after the items xs
     items-refuse : (n at : ℕ) (xs : List (List ℕ)) → Items s p xs at → length xs + n ≡ count_in s p → Refuses Shown (items_at s (end_of s p) n at)

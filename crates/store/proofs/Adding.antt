@@ -9,18 +9,17 @@ use borrow.Rule.Slice.PartMut.{put_mid}
 use lib.Dec.{leb, ltb}
 use lib.ListN.{length, take, drop, take-append-drop}
 use lib.Seq.{take-length, sets, sets-eq, length-sets, length-take-le}
-use Rattle.number.specs.Endian.{be, be_bytes}
+use Rattle.std.specs.Prelude.{Ok, Err}
+use Rattle.number.specs.Endian.{be_bytes}
 use Rattle.number.proofs.Writing.{sets-append}
 use Rattle.descriptor.specs.Limits.{descriptor_limit, data_limit}
 use Rattle.descriptor.specs.Tree.{Tree}
 use Rattle.descriptor.specs.Outcome.{Outcome, refused, read, Verdict, denied, granted}
 use Rattle.descriptor.specs.Check.{checked}
-use Rattle.descriptor.specs.Answers.{accepted}
 use Rattle.descriptor.specs.Output.{unwritten}
-use Rattle.descriptor.specs.inner.Steps.{counted}
-use Rattle.descriptor.specs.declared.step.Step.{Step}
+use Rattle.descriptor.specs.declared.answer.Answer.{Answer}
+use Rattle.descriptor.specs.declared.refusal.Refusal.{Refusal}
 use Rattle.descriptor.proofs.Outcomes.{holds_read, holds-require, holds-weaken, holds-self}
-use Rattle.descriptor.proofs.Steps.{impossible}
 use Rattle.canonical.specs.inner.Walk.{Accepted}
 use Rattle.flattened.specs.Order.{big}
 use Rattle.flattened.specs.Token.{Token}
@@ -28,16 +27,18 @@ use Rattle.flattened.specs.Walk.{walked}
 use Rattle.flattened.specs.inner.Types.{type_at}
 use Rattle.members.proofs.Joined.{put_front}
 use Rattle.records.proofs.Topmost.{top-short}
-use Rattle.store.specs.Book.{identified, Blank, stop_of, Book}
+use Rattle.store.specs.Book.{identified, Blank, stop_of}
 use Rattle.store.specs.Layout.{entry_place, entry_bytes, bodies_end}
 use Rattle.store.specs.Check.{opened}
 use Rattle.store.specs.Questions.{entry_of, absent, admitted, with_record, entered, added}
 use Rattle.store.specs.inner.Identity.{told, DataOf}
-use Rattle.store.specs.inner.Entries.{Sought, blanks_at, Fits}
-use Rattle.store.specs.declared.identity.Told.{Told}
+use Rattle.store.specs.inner.Entries.{Unseen, FirstWith, blanks_at}
+use Rattle.store.specs.inner.Opens.{Open}
+use Rattle.store.specs.inner.Adding.{Admitted}
+use Rattle.store.specs.declared.open.Book.{Book as Opened}
 use Rattle.store.proofs.Seeking.{entry-there, entry-none}
 use Rattle.store.proofs.Identified.{descriptor-denied, data-denied}
-use Rattle.store.proofs.Asked.{it, refused-so, read-so, asked-read, asked-count, blanks-so, blanks-count}
+use Rattle.store.proofs.Asked.{asked-read, asked-count, blanks-so}
 
 -- bytes that were copied to a place
 copied : (s d part : List ℕ) (at : ℕ) → at + length d ≤ length s → part ≡ d ++ drop (length d) (take (length s - at) (drop at s))
@@ -81,14 +82,14 @@ granted-accepted : (d x : List ℕ) (id : ℕ) → identified d x ≡ granted id
 granted-accepted d x id e = of (checked d) refl
   where
     of : (o : Outcome Tree) → checked d ≡ o → Accepted d
-    of (refused number place) f = impossible (ap (λ (v : Verdict ℕ). (told v).ok) (sym (descriptor-denied d x number place f) ∙ e))
+    of (refused number place) f = absurd (let other = sym (descriptor-denied d x number place f) ∙ e in cc)
     of (read q t) f = record { at = q; tree = t; eq = f }
 
 granted-data : (d x : List ℕ) (id : ℕ) → identified d x ≡ granted id → Accepted d → DataOf d x
 granted-data d x id e a = of (walked big (type_at d 0) x) refl
   where
     of : (o : Outcome (List Token)) → walked big (type_at d 0) x ≡ o → DataOf d x
-    of (refused number place) f = impossible (ap (λ (v : Verdict ℕ). (told v).ok) (sym (data-denied d a x number place f) ∙ e))
+    of (refused number place) f = absurd (let other = sym (data-denied d a x number place f) ∙ e in cc)
     of (read q ts) f = record { end = q; tokens = ts; eq = f }
 
 data-most : (d x : List ℕ) → DataOf d x → length x ≤ data_limit
@@ -104,93 +105,86 @@ granted-short d x id e =
     omega (arith, top-short d a, data-most d x (granted-data d x id e a))
 
 -- what the code was told
-told-denied : (v : Verdict ℕ) (t : Told) → t ≡ told v → t.ok ≡ false → v ≡ denied t.answer.number t.answer.input t.answer.place
-told-denied (denied number input place) t e off =
-    λ i. denied (ap (λ (x : Told). x.answer.number) (sym e) i) (ap (λ (x : Told). x.answer.input) (sym e) i) (ap (λ (x : Told). x.answer.place) (sym e) i)
-told-denied (granted n) t e off = impossible (sym off ∙ ap (λ (x : Told). x.ok) e)
+told-denied : (v : Verdict ℕ) (a : Answer) → Err a ≡ told v → v ≡ denied a.number a.input a.place
+told-denied (denied number input place) a e =
+    let same : a ≡ record { number = number; input = input; place = place } = cc in
+    ap (λ (x : Answer). denied x.number x.input x.place) (sym same)
+told-denied (granted n) a e = absurd (cc)
 
-told-granted : (v : Verdict ℕ) (t : Told) → t ≡ told v → t.ok ≡ true → v ≡ granted t.value
-told-granted (denied number input place) t e on = impossible (sym (ap (λ (x : Told). x.ok) e) ∙ on)
-told-granted (granted n) t e on = ap granted (ap (λ (x : Told). x.value) (sym e))
+told-granted : (v : Verdict ℕ) (n : ℕ) → Ok n ≡ told v → v ≡ granted n
+told-granted (denied number input place) n e = absurd (cc)
+told-granted (granted m) n e = let same : m ≡ n = cc in ap granted same
 
-module _ (s d x : List ℕ) (book : Step) (is : book ≡ counted (λ (b : Book). length b.blanks) (opened s)) where
-  pub add-lost : book.ok ≡ false → unwritten s book.number 4 book.place ≡ added s d x
+module _ (s d x : List ℕ) where
+  -- 63
+  pub add-lost : (r : Refusal) → opened s ≡ refused r.number r.place → added s d x ≡ unwritten s r.number 4 r.place
   unfolding added
-  add-lost off = sym (rw (refused-so s book is off) refl)
+  add-lost r is = rw is refl
 
-  module _ (on : book.ok ≡ true) (own : Told) (io : own ≡ told (identified d x)) where
+  module _ (b : Opened) (o : Open s b) where
+    abbrev n : ℕ
+    n = b.entries.count
+
     -- the record's own refusal
-    pub add-own : own.ok ≡ false → record { answer = own.answer; out = s } ≡ added s d x
+    pub add-own : (a : Answer) → Err a ≡ told (identified d x) → added s d x ≡ unwritten s a.number a.input a.place
     unfolding added
-    add-own off = sym (rw (read-so s book is on, told-denied (identified d x) own io off) refl)
+    add-own a own = rw (o.is, told-denied (identified d x) a own) refl
 
-    module _ (right : own.ok ≡ true) where
-      says : identified d x ≡ granted own.value
-      says = told-granted (identified d x) own io right
+    module _ (id : ℕ) (own : Ok id ≡ told (identified d x)) where
+      says : identified d x ≡ granted id
+      says = told-granted (identified d x) id own
 
       pub add-short : length d + length x < 2 ^ 17
-      add-short = omega (arith, granted-short d x own.value says)
+      add-short = omega (arith, granted-short d x id says)
 
-      new : Blank
-      new = record { identifier = own.value; start = bodies_end (it s book is on); descriptor = d; flattened = x }
+      abbrev new : Blank
+      new = record { identifier = id; start = b.end; descriptor = d; flattened = x }
 
-      enters : added s d x ≡ entered s (it s book is on) new
-      unfolding added new
-      enters = rw (read-so s book is on, says) refl
+      enters : added s d x ≡ entered s o.book new
+      unfolding added
+      enters =
+          let last : bodies_end o.book ≡ b.end = sym (asked-read s b o).ends in
+          rw (o.is, says, last) refl
 
-      searched : entry_of own.value 0 (it s book is on).blanks ≡ entry_of own.value 0 (blanks_at s book.value 0)
-      searched = ap (entry_of own.value 0) (blanks-so s book is on)
+      searched : entry_of id 0 o.book.blanks ≡ entry_of id 0 (blanks_at s n 0)
+      searched = ap (entry_of id 0) (blanks-so s b o)
 
-      module _ (r : ℕ) (sought : Sought s book.value own.value r) where
-        -- 60
-        pub add-taken : (r ≡ book.value → ⊥) → unwritten s 60 4 r ≡ added s d x
-        unfolding entered admitted absent new
-        add-taken some =
-            let less : r < book.value = omega (arith, sought.most, some) in
-            let there = searched ∙ entry-there s own.value book.value 0 r sought.none (omega arith) (omega arith) (sought.there less) in
-            sym (enters ∙ rw there refl)
+      -- 60
+      pub add-taken : (i : ℕ) → FirstWith s n id i → added s d x ≡ unwritten s 60 4 i
+      unfolding entered admitted absent
+      add-taken i first =
+          let there = searched ∙ entry-there s id n 0 i first.unseen (omega arith) (omega (arith, first.within)) first.there in
+          enters ∙ rw there refl
 
-        module _ (fresh : r ≡ book.value) where
-          missing : entry_of own.value 0 (it s book is on).blanks ≡ refused 64 0
-          missing = searched ∙ entry-none s own.value book.value 0 r sought.none (omega arith)
+      module _ (unseen : Unseen s id n) where
+        missing : entry_of id 0 o.book.blanks ≡ refused 64 0
+        missing = searched ∙ entry-none s id n 0 n unseen (omega arith)
 
-          count : length (it s book is on).blanks ≡ book.value
-          count = blanks-count s book is on
+        -- 61
+        pub add-full : b.capacity ≤ n → added s d x ≡ unwritten s 61 4 0
+        unfolding entered admitted absent
+        add-full full =
+            let none_free : ltb (length o.book.blanks) o.book.capacity ≡ false =
+            le-ltb (length o.book.blanks) o.book.capacity (omega (arith, o.count, o.capacity)) in
+            enters ∙ rw (missing, none_free) refl
 
-          -- 61
-          pub add-full : be s 0 2 ≤ book.value → unwritten s 61 4 0 ≡ added s d x
-          unfolding entered admitted absent new
-          add-full full =
-              let none_free : ltb (length (it s book is on).blanks) (it s book is on).capacity ≡ false =
-              le-ltb (length (it s book is on).blanks) (it s book is on).capacity (omega (arith, count, (asked-read s book is on).capacity)) in
-              sym (enters ∙ rw (missing, none_free) refl)
+        module _ (free : n < b.capacity) where
+          one_free : ltb (length o.book.blanks) o.book.capacity ≡ true
+          one_free = lt-ltb (length o.book.blanks) o.book.capacity (omega (arith, o.count, o.capacity))
 
-          module _ (free : book.value < be s 0 2) where
-            one_free : ltb (length (it s book is on).blanks) (it s book is on).capacity ≡ true
-            one_free = lt-ltb (length (it s book is on).blanks) (it s book is on).capacity (omega (arith, count, (asked-read s book is on).capacity))
+          -- 62
+          pub add-narrow : length s < b.end + (length d + length x) → added s d x ≡ unwritten s 62 4 (length d + length x)
+          unfolding entered admitted absent
+          add-narrow over = enters ∙ rw (missing, one_free, lt-leb (stop_of new) (length s) over) refl
 
-            -- 62
-            pub add-narrow : length s < book.next + (length d + length x) → unwritten s 62 4 (length d + length x) ≡ added s d x
-            unfolding entered admitted absent new
-            add-narrow over =
-                let no_room : leb (stop_of new) (length s) ≡ false = lt-leb (stop_of new) (length s) (omega (arith, (asked-read s book is on).ends)) in
-                sym (enters ∙ rw (missing, one_free, no_room) refl)
-
-            module _ (room : book.next + (length d + length x) ≤ length s) where
-              pub add-fits : Fits s book.value book.next d x
-              add-fits = record {
-                room = room;
-                entry = omega (arith, asked-count s book is on, (asked-read s book is on).past);
-                short = (asked-read s book is on).short;
-              }
-
-              -- the record is written
-              pub add_done : (out : List ℕ) → out ≡ with_record s book.value (record { identifier = own.value; start = book.next; descriptor = d; flattened = x })
-                  → record { answer = accepted 0; out = out } ≡ added s d x
-              unfolding entered admitted absent new
-              add_done out eo =
-                  let enough : leb (stop_of new) (length s) ≡ true = le-leb (stop_of new) (length s) (omega (arith, (asked-read s book is on).ends)) in
-                  let last : book.next ≡ bodies_end (it s book is on) = (asked-read s book is on).ends in
-                  let same : out ≡ with_record s (length (it s book is on).blanks) new =
-                  eo ∙ (λ i. with_record s (sym count i) (record { identifier = own.value; start = last i; descriptor = d; flattened = x })) in
-                  (λ i. record { answer = accepted 0; out = same i }) ∙ sym (enters ∙ rw (missing, one_free, enough) refl)
+          -- the record is written
+          pub add_done : b.end + (length d + length x) ≤ length s → Admitted s d x n new
+          unfolding entered admitted absent
+          add_done room = record {
+            fits = record {
+              room = room;
+              entry = omega (arith, asked-count s b o, o.capacity, (asked-read s b o).capacity, (asked-read s b o).past);
+              short = (asked-read s b o).short;
+            };
+            is = enters ∙ rw (missing, one_free, le-leb (stop_of new) (length s) room, sym o.count) refl;
+          }

@@ -10,6 +10,7 @@ use borrow.Author.Tests.{leb-true}
 use lib.Dec.{leb}
 use lib.ListN.{length, get_or}
 use lib.Seq.{slice}
+use Rattle.std.specs.Prelude.{Ok, Err}
 use Rattle.number.specs.Endian.{be}
 use Rattle.number.proofs.Inverse.{be-part}
 use Rattle.descriptor.specs.Codes.{kind_of}
@@ -19,10 +20,10 @@ use Rattle.descriptor.specs.Outcome.{Outcome, refused, read, and_then, Verdict, 
 use Rattle.descriptor.specs.Check.{header_at, count_at, fields_read, contents_at, filled_at, fields_at, members_at, name_at, node_at, tree_at, checked}
 use Rattle.descriptor.specs.Width.{width_of}
 use Rattle.descriptor.specs.inner.Standing.{standing, is_read}
-use Rattle.descriptor.specs.inner.Steps.{counted}
-use Rattle.descriptor.specs.declared.step.Step.{Step}
+use Rattle.descriptor.specs.Answers.{refusal}
+use Rattle.descriptor.specs.declared.refusal.Refusal.{Refusal}
 use Rattle.descriptor.proofs.Outcomes.{Holds, nothing, found, holds_read, holds-require}
-use Rattle.descriptor.proofs.Steps.{impossible, got, lost}
+use Rattle.descriptor.proofs.Steps.{impossible}
 use Rattle.canonical.specs.Equality.{same_tree}
 use Rattle.canonical.specs.inner.Walk.{Accepted}
 use Rattle.canonical.proofs.Same.{same-tree}
@@ -30,20 +31,20 @@ use Rattle.encoding.proofs.Slices.{slice-take}
 use Rattle.flattened.specs.Order.{big}
 use Rattle.flattened.specs.Walk.{scalar_at, walk_fields, walk, walked}
 use Rattle.flattened.specs.inner.Types.{type_of, type_at}
-use Rattle.members.specs.inner.Members.{top_at, place_from, type_from}
-use Rattle.members.specs.inner.Names.{name_of, chars_at, named_at}
+use Rattle.members.specs.inner.Members.{top_at, top_count, place_from, type_from}
+use Rattle.members.specs.inner.Names.{name_of}
 use Rattle.members.proofs.Listing.{member-inner}
 use Rattle.resolution.specs.Record.{Member, writer_members, reader_members, is_among, reader_names, reader_fields, namesakes, member_found, member_bytes, joined_bytes, record_bytes}
-use Rattle.resolution.specs.inner.Data.{data_from}
+use Rattle.resolution.specs.inner.Data.{data_from, passed}
 use Rattle.resolution.specs.inner.Searching.{all_members}
-use Rattle.resolution.specs.inner.Picking.{Called, Picks}
-use Rattle.resolution.specs.inner.Tops.{is_cluster, top_count, TopStarts}
+use Rattle.resolution.specs.inner.Picking.{Called, Picked, Unpicked}
+use Rattle.resolution.specs.inner.Tops.{is_cluster}
+use Rattle.resolution.proofs.Ends.{passed-lost, passed-got}
 use Rattle.resolution.proofs.Apart.{apart-formed}
 use Rattle.records.proofs.Topmost.{top-tree, top-members, writers-none}
 use Rattle.records.proofs.Answering.{member-data, members-are}
 use Rattle.store.specs.Book.{shape, identified}
-use Rattle.store.specs.inner.Identity.{told, DataOf, Bears, Carries}
-use Rattle.store.specs.declared.identity.Told.{Told}
+use Rattle.store.specs.inner.Identity.{DataOf, Bears, Bare}
 
 -- "one unsigned 32-bit member named "blank""
 abbrev blank_type : Tree
@@ -64,15 +65,10 @@ shape-type : type_at shape 6 ≡ blank_type
 unfolding type_of standing be kind_of child_count row_count forest_rows header_at count_at fields_read contents_at filled_at fields_at members_at name_at node_at tree_at
 shape-type = refl
 
--- where the shape's one member and its name stand
-pub shape-called : Called shape 6 11
-unfolding type_of is_read standing be kind_of child_count row_count forest_rows header_at count_at fields_read contents_at filled_at fields_at members_at name_at node_at tree_at name_of chars_at named_at
-shape-called = record {
-  inner = record { here = record { is = refl; small = omega arith }; short = omega arith };
-  some = omega arith;
-  fits = record { within = λ _. omega arith; short = omega arith };
-  name = refl;
-}
+-- where the shape's one member stands, and its name
+pub shape-called : Called shape 6 (98 ∷ 108 ∷ 97 ∷ 110 ∷ 107 ∷ [])
+unfolding type_of is_read standing be kind_of child_count row_count forest_rows header_at count_at fields_read contents_at filled_at fields_at members_at name_at node_at tree_at name_of
+shape-called = record { inner = record { here = record { is = refl; small = omega arith }; short = omega arith }; name = refl }
 
 blank-formed : WellFormed false blank_type
 unfolding WellFormed FieldsFit NameFits Bytes kind_of forest_length child_count
@@ -125,62 +121,49 @@ module _ (d : List ℕ) (a : Accepted d) where
   data-denied x number place e = rw (known, shape-read, e) refl
 
   -- a descriptor that is no cluster carries none
-  pub carries-none : is_cluster d ≡ false → (r : Told) → r ≡ told (denied 41 1 0) → Carries d r
-  carries-none no-cluster r e = record {
-    lost = λ _ x w. ap told (ahead x w ∙ ap (by_members x) (writers-none d a no-cluster x)) ∙ sym e;
-    got = λ on. impossible (sym (ap (λ (t : Told). t.ok) e) ∙ on);
-  }
+  pub carries-none : is_cluster d ≡ false → Bare d (refusal 41 1 0)
+  carries-none no-cluster = record { lost = λ x w. ahead x w ∙ ap (by_members x) (writers-none d a no-cluster x) }
 
   module _ (cluster : is_cluster d ≡ true) where
     by-member : (x : List ℕ) → DataOf d x → identified d x ≡ by_member x (member_found 0 blank_type (namesakes blank_type (all_members d (top_count d) x)))
     unfolding joined_bytes member_bytes
     by-member x w = ahead x w ∙ ap (by_members x) (members-are d x a cluster w.end w.tokens w.eq).1
 
-    module _ (p : Step) (picks : Picks d (top_count d) (type_at shape 6) 0 p) where
-      -- no member carries it
-      pub carries-lost : p.ok ≡ false → (r : Told) → r ≡ told (denied p.number 2 p.place) → Carries d r
-      carries-lost off r e = record {
-        lost = λ _ x w. ap told (by-member x w ∙ ap (by_member x) (rw shape-type at (picks.lost off x))) ∙ sym e;
-        got = λ on. impossible (sym (ap (λ (t : Told). t.ok) e) ∙ on);
+    -- no member carries it
+    pub carries-lost : (p : Refusal) → Unpicked d (top_count d) (type_at shape 6) 0 p → Bare d (refusal p.number 2 p.place)
+    carries-lost p picks = record { lost = λ x w. by-member x w ∙ ap (by_member x) (rw shape-type at (picks.is x)) }
+
+    module _ (m : ℕ) (picks : Picked d (top_count d) (type_at shape 6) 0 m) (bytes : (n : ℕ) → get_or d n 0 < 256) where
+      -- its type
+      type-is : type_from d (top_at d) m ≡ blank_type
+      type-is =
+          let inner = member-inner d (top_count d) (top_at d) (top-members d a cluster) m picks.within in
+          let same : same_tree blank_type (type_from d (top_at d) m) ≡ true =
+          holds_read (rw shape-type at (picks.is [])) (found-same 0 blank_type (namesakes blank_type (all_members d (top_count d) []))) in
+          sym (same-tree blank_type (type_from d (top_at d) m) false false blank-formed (apart-formed d (place_from d (top_at d) m) inner bytes) same)
+
+      -- its data
+      ends : (x : List ℕ) → DataOf d x → (data_from d (top_at d) x (m + 1) ≡ data_from d (top_at d) x m + 4) × (data_from d (top_at d) x m + 4 ≤ length x)
+      ends x w =
+          let walks = member-data d x a cluster w.end w.tokens w.eq m picks.within in
+          holds_read (ap (λ (t : Tree). walk big t x (data_from d (top_at d) x m)) (sym type-is) ∙ walks.1) (four x (data_from d (top_at d) x m))
+
+      spelled : (x : List ℕ) → DataOf d x
+          → be (slice (data_from d (top_at d) x m) (data_from d (top_at d) x (suc m)) x ++ []) 0 4 ≡ be x (data_from d (top_at d) x m) 4
+      spelled x w =
+          let at : ℕ = data_from d (top_at d) x m in
+          let next : data_from d (top_at d) x (suc m) ≡ at + 4 = ap (λ (n : ℕ). data_from d (top_at d) x n) (sym (add-one m)) ∙ (ends x w).0 in
+          ap (λ (l : List ℕ). be l 0 4) (append-nil (slice at (data_from d (top_at d) x (suc m)) x) ∙ ap (λ (n : ℕ). slice at n x) next ∙ slice-take at 4 x)
+          ∙ be-part x at 4
+
+      -- the member carries it
+      pub carries-got : Bears d m
+      carries-got = record {
+        cluster = cluster;
+        within = picks.within;
+        room = λ x w. (ends x w).1;
+        says = λ x w. by-member x w ∙ ap (by_member x) (rw shape-type at (picks.is x)) ∙ ap granted (spelled x w);
       }
-
-      module _ (bytes : (n : ℕ) → get_or d n 0 < 256) (on : p.ok ≡ true) where
-        abbrev m : ℕ
-        m = p.value
-
-        -- its type
-        type-is : type_from d (top_at d) m ≡ blank_type
-        type-is =
-            let inner = member-inner d (top_count d) (top_at d) (top-members d a cluster) m (picks.within on) in
-            let same : same_tree blank_type (type_from d (top_at d) m) ≡ true =
-            holds_read (rw shape-type at (picks.got on [])) (found-same 0 blank_type (namesakes blank_type (all_members d (top_count d) []))) in
-            sym (same-tree blank_type (type_from d (top_at d) m) false false blank-formed (apart-formed d (place_from d (top_at d) m) inner bytes) same)
-
-        -- its data
-        ends : (x : List ℕ) → DataOf d x → (data_from d (top_at d) x (m + 1) ≡ data_from d (top_at d) x m + 4) × (data_from d (top_at d) x m + 4 ≤ length x)
-        ends x w =
-            let walks = member-data d x a cluster w.end w.tokens w.eq m (picks.within on) in
-            holds_read (ap (λ (t : Tree). walk big t x (data_from d (top_at d) x m)) (sym type-is) ∙ walks.1) (four x (data_from d (top_at d) x m))
-
-        spelled : (x : List ℕ) → DataOf d x
-            → be (slice (data_from d (top_at d) x m) (data_from d (top_at d) x (suc m)) x ++ []) 0 4 ≡ be x (data_from d (top_at d) x m) 4
-        spelled x w =
-            let at : ℕ = data_from d (top_at d) x m in
-            let next : data_from d (top_at d) x (suc m) ≡ at + 4 = ap (λ (n : ℕ). data_from d (top_at d) x n) (sym (add-one m)) ∙ (ends x w).0 in
-            ap (λ (l : List ℕ). be l 0 4) (append-nil (slice at (data_from d (top_at d) x (suc m)) x) ∙ ap (λ (n : ℕ). slice at n x) next ∙ slice-take at 4 x)
-            ∙ be-part x at 4
-
-        -- the member carries it
-        pub carries-got : (r : Told) → r ≡ told (granted m) → Carries d r
-        carries-got r e = record {
-          lost = λ off. impossible (sym off ∙ ap (λ (t : Told). t.ok) e);
-          got = λ _. rw (ap (λ (t : Told). t.value) e) (record {
-            cluster = cluster;
-            within = picks.within on;
-            room = λ x w. (ends x w).1;
-            says = λ x w. by-member x w ∙ ap (by_member x) (rw shape-type at (picks.got on x)) ∙ ap granted (spelled x w);
-          });
-        }
 
 -- a descriptor that is refused
 pub descriptor-denied : (d x : List ℕ) (number place : ℕ) → checked d ≡ refused number place → identified d x ≡ denied number 1 place
@@ -188,16 +171,14 @@ unfolding identified record_bytes
 descriptor-denied d x number place e = rw e refl
 
 -- what the walk of the data says
-module _ (d x : List ℕ) (w : Step) (e : w ≡ counted (λ _. 0) (walked big (type_at d 0) x)) where
-  pub walk-denied : Accepted d → w.ok ≡ false → identified d x ≡ denied w.number 3 w.place
-  walk-denied a off = data-denied d a x _ _ (lost (λ _. 0) (λ _. 0) (walked big (type_at d 0) x) w e off).eq
+module _ (d x : List ℕ) where
+  pub walk-denied : Accepted d → (e : Refusal) → Err e ≡ passed (walked big (type_at d 0) x) → identified d x ≡ denied e.number 3 e.place
+  walk-denied a e walks = data-denied d a x _ _ (passed-lost (walked big (type_at d 0) x) e walks)
 
-  pub walked-data : w.ok ≡ true → DataOf d x
-  walked-data on = let g = got (λ _. 0) (λ _. 0) (walked big (type_at d 0) x) w e on in record { end = w.next; tokens = g.value; eq = g.eq }
-
-  -- where the data of the member that carries the identifier starts, in the column of starts
-  pub starts-at : w.ok ≡ true → (starts : List ℕ) → TopStarts d x starts w → (m : ℕ) → Bears d m → get_or starts m 0 ≡ data_from d (top_at d) x m
-  starts-at on starts begun m bears = (begun.all on bears.cluster).at m (omega (arith, bears.within))
+  pub walked-data : Ok tt ≡ passed (walked big (type_at d 0) x) → DataOf d x
+  walked-data walks =
+      let g = passed-got (walked big (type_at d 0) x) walks in
+      record { end = g.0; tokens = g.1.0; eq = g.1.1 }
 
 -- a table has room for every member
 pub starts-few : (d : List ℕ) → Accepted d → (m : ℕ) → Bears d m → m < 256

@@ -1,10 +1,14 @@
 pub mod Entries
 pub mod Seeking
 pub mod Marking
-pub mod Identified
+pub mod Laying
 pub mod Steady
+pub mod Identified
 pub mod Judging
-pub mod Zeros
 pub mod Opening
+pub mod Reading
+pub mod Whole
 pub mod Asked
 pub mod Adding
+pub mod Zeros
+pub mod Clearing

@@ -5,6 +5,7 @@ use mathlib.Core.Bool.{Bool, true, false, cond}
 use mathlib.Core.List.{List}
 use Prim.Native.Nat.{ℕ, zero, suc, ◌+◌, ◌≤◌, ◌<◌}
 use native.Mathlib.Omega.{arith}
+use borrow.Author.Count.{below_more}
 use borrow.Author.Tests.{eqb-true, eqb-false, eq-eqb, ne_eqb}
 use lib.Dec.{eqb}
 use Rattle.descriptor.specs.Outcome.{refused, read}
@@ -12,27 +13,16 @@ use Rattle.store.specs.Book.{is_one_of}
 use Rattle.store.specs.Layout.{entry_place}
 use Rattle.store.specs.Check.{blank_at}
 use Rattle.store.specs.Questions.{entry_of}
-use Rattle.store.specs.inner.Entries.{name_at, None, Sought, seen_before, blanks_at}
+use Rattle.store.specs.inner.Entries.{name_at, Unseen, seen_before, blanks_at}
 
 module _ (s : List ℕ) (id : ℕ) where
   -- nothing is before the first
-  pub none_yet : None s id 0
-  none_yet = record { before = λ j h. absurd (omega arith) }
+  pub unseen-none : Unseen s id 0
+  unseen-none = record { before = λ j h. absurd (omega arith) }
 
   -- one entry more
-  pub none_more : (i : ℕ) → None s id i → (name_at s i ≡ id → ⊥) → None s id (i + 1)
-  none_more i none differ = record { before = λ j h e. of j h e (eqb j i) refl }
-    where
-      of : (j : ℕ) → j < i + 1 → name_at s j ≡ id → (b : Bool) → eqb j i ≡ b → ⊥
-      of j h e true f = let same : j ≡ i = eqb-true j i f in differ (rw same at e)
-      of j h e false f = none.before j (omega (arith, eqb-false j i f)) e
-
-  -- the search has found it, or ends
-  pub seek-there : (n i : ℕ) → None s id i → i < n → name_at s i ≡ id → Sought s n id i
-  seek-there n i none h e = record { none = none; most = omega arith; there = λ _. e }
-
-  pub seek-over : (n i : ℕ) → None s id i → i ≤ n → n ≤ i → Sought s n id n
-  seek-over n i none h k = let same : i ≡ n = omega arith in record { none = rw same at none; most = omega arith; there = λ l. absurd (omega arith) }
+  pub unseen_more : (i : ℕ) → Unseen s id i → name_at s i ≢ id → Unseen s id (i + 1)
+  unseen_more i unseen differ = record { before = below_more (λ j. name_at s j ≢ id) i unseen.before differ }
 
   -- an identifier that some entry before i has is one of theirs
   pub one-there : (i j : ℕ) → j < i → name_at s j ≡ id → is_one_of id (seen_before s i) ≡ true
@@ -47,18 +37,18 @@ module _ (s : List ℕ) (id : ℕ) where
           more (omega (arith, differ))
 
   -- and one that none has is not
-  pub one_none : (i : ℕ) → None s id i → is_one_of id (seen_before s i) ≡ false
+  pub one_none : (i : ℕ) → Unseen s id i → is_one_of id (seen_before s i) ≡ false
   unfolding is_one_of seen_before
-  one_none zero none = refl
-  one_none (suc i) none =
-      rw (ne_eqb (name_at s i) id (none.before i (omega arith)))
-      (one_none i (record { before = λ j h. none.before j (omega arith) }))
+  one_none zero unseen = refl
+  one_none (suc i) unseen =
+      rw (ne_eqb (name_at s i) id (unseen.before i (omega arith)))
+      (one_none i (record { before = λ j h. unseen.before j (omega arith) }))
 
   -- the entry that was found, of k from entry i on
-  pub entry-there : (k i r : ℕ) → None s id r → i ≤ r → r < i + k → name_at s r ≡ id → entry_of id i (blanks_at s k i) ≡ read r (blank_at s (entry_place r))
+  pub entry-there : (k i r : ℕ) → Unseen s id r → i ≤ r → r < i + k → name_at s r ≡ id → entry_of id i (blanks_at s k i) ≡ read r (blank_at s (entry_place r))
   unfolding entry_of blanks_at blank_at
-  entry-there zero i r none l h e = absurd (omega arith)
-  entry-there (suc k) i r none l h e = of (eqb i r) refl (λ m. entry-there k (i + 1) r none (omega arith) (omega arith) e)
+  entry-there zero i r unseen l h e = absurd (omega arith)
+  entry-there (suc k) i r unseen l h e = of (eqb i r) refl (λ m. entry-there k (i + 1) r unseen (omega arith) (omega arith) e)
     where
       of : (b : Bool) → eqb i r ≡ b → (i < r → entry_of id (i + 1) (blanks_at s k (i + 1)) ≡ read r (blank_at s (entry_place r)))
           → cond (eqb (name_at s i) id) (read i (blank_at s (entry_place i))) (entry_of id (i + 1) (blanks_at s k (i + 1))) ≡ read r (blank_at s (entry_place r))
@@ -67,11 +57,11 @@ module _ (s : List ℕ) (id : ℕ) where
           rw (← same) (rw (eq-eqb (name_at s i) id (rw (← same) at e)) refl)
       of false f more =
           let less : i < r = omega (arith, eqb-false i r f) in
-          rw (ne_eqb (name_at s i) id (none.before i less)) (more less)
+          rw (ne_eqb (name_at s i) id (unseen.before i less)) (more less)
 
   -- and none where none has it
-  pub entry-none : (k i r : ℕ) → None s id r → i + k ≤ r → entry_of id i (blanks_at s k i) ≡ refused 64 0
+  pub entry-none : (k i r : ℕ) → Unseen s id r → i + k ≤ r → entry_of id i (blanks_at s k i) ≡ refused 64 0
   unfolding entry_of blanks_at blank_at
-  entry-none zero i r none h = refl
-  entry-none (suc k) i r none h =
-      rw (ne_eqb (name_at s i) id (none.before i (omega arith))) (entry-none k (i + 1) r none (omega arith))
+  entry-none zero i r unseen h = refl
+  entry-none (suc k) i r unseen h =
+      rw (ne_eqb (name_at s i) id (unseen.before i (omega arith))) (entry-none k (i + 1) r unseen (omega arith))

@@ -9,6 +9,7 @@ use native.Mathlib.Omega.{arith}
 use borrow.Author.Tests.{le-leb, eqb-true, eq-eqb}
 use lib.Dec.{leb, eqb}
 use lib.ListN.{length}
+use Rattle.std.specs.Prelude.{Some}
 use Rattle.descriptor.specs.Limits.{descriptor_limit, depth_limit, data_limit}
 use Rattle.descriptor.specs.Header.{size_in}
 use Rattle.descriptor.specs.Tree.{tree_size}
@@ -27,27 +28,25 @@ use Rattle.flattened.proofs.Types.{RowTurn, type-size}
 use Rattle.flattened.proofs.Extents.{walk-takes}
 use Rattle.flattened.proofs.ExtentTurns.{Small, type-few}
 use Rattle.elements.proofs.Keeping.{calm-kept}
-use Rattle.members.specs.inner.Members.{top_at, place_from, type_from}
+use Rattle.members.specs.inner.Members.{top_at, top_count, place_from, type_from}
 use Rattle.members.proofs.InRow.{turn_at}
 use Rattle.resolution.specs.inner.Data.{data_from}
-use Rattle.resolution.specs.inner.Tops.{top_count}
 use Rattle.records.proofs.Topmost.{stands, top-short, top-members}
 use Rattle.records.proofs.Answering.{member-data}
 use Rattle.store.specs.inner.Identity.{DataOf, Bears}
 use Rattle.store.specs.inner.Steady.{steady_width, Steady}
 
 -- an extent that does not vary and has no number that is judged
-record Calm (e : Extent) : Type 0 where
-  w : ℕ
+record Calm (e : Extent) (w : ℕ) : Type 0 where
   k : ℕ
   is : e ≡ Fixed w k false
 
-calm : (e : Extent) → 0 < steady_width e → (c : Calm e) × (c.w ≡ steady_width e)
+calm : (e : Extent) (w : ℕ) → Some w ≡ steady_width e → Calm e w
 unfolding steady_width
-calm Varies h = absurd (omega arith)
-calm (Fixed w k true) h = absurd (omega arith)
-calm (Fixed w k false) h = (record { w = w; k = k; is = refl }, refl)
-calm (Around b a k j) h = absurd (omega arith)
+calm Varies w h = absurd (cc)
+calm (Fixed v k true) w h = absurd (cc)
+calm (Fixed v k false) w h = let same : w ≡ v = cc in record { k = k; is = ap (λ (n : ℕ). Fixed n k false) (sym same) }
+calm (Around b a k j) w h = absurd (cc)
 
 -- walked data, from its walk
 walked-so : (d x : List ℕ) (q : ℕ) (ts : List Token) → walk big (type_at d 0) x 0 ≡ read q ts → q ≡ length x → length x ≤ data_limit → DataOf d x
@@ -72,28 +71,26 @@ walks d x w =
     holds-require (eqb q (length x)) _ _ (λ f.
     found (record { tokens = ts; eq = e ∙ ap (λ (n : ℕ). read n ts) (eqb-true q (length x) f) })))))
 
-module _ (d : List ℕ) (width : ℕ) (is : width ≡ steady_width (extent_of (type_at d 0))) (some : 0 < width) where
-  known : (c : Calm (extent_of (type_at d 0))) × (c.w ≡ steady_width (extent_of (type_at d 0)))
-  known = calm (extent_of (type_at d 0)) (omega (arith, is))
+module _ (d : List ℕ) (width : ℕ) (is : Some width ≡ steady_width (extent_of (type_at d 0))) where
+  known : Calm (extent_of (type_at d 0)) width
+  known = calm (extent_of (type_at d 0)) width is
 
   -- data of this length is accepted
   steady-whole : width ≤ data_limit → (x : List ℕ) → length x ≡ width → DataOf d x
   unfolding judged_in
   steady-whole short x e =
-      let c = known.0 in
-      let takes = walk-takes x (type_at d 0) c.w c.k false c.is big 0 in
-      let kept = calm-kept big x (type_at d 0) (ap judged_in c.is) 0 in
-      let long : 0 + c.w ≡ length x = omega (arith, known.1, is) in
+      let takes = walk-takes x (type_at d 0) width known.k false known.is big 0 in
+      let kept = calm-kept big x (type_at d 0) (ap judged_in known.is) 0 in
+      let long : 0 + width ≡ length x = omega arith in
       let reads = takes.reads kept (omega arith) in
-      walked-so d x (0 + c.w) reads.tokens reads.eq long (omega arith)
+      walked-so d x (0 + width) reads.tokens reads.eq long (omega arith)
 
   -- and no other
   steady-long : (x : List ℕ) → DataOf d x → length x ≡ width
   steady-long x w =
-      let c = known.0 in
       let all = walks d x w in
-      let ends = holds_read all.eq (walk-takes x (type_at d 0) c.w c.k false c.is big 0).ends in
-      omega (arith, ends.at, known.1, is)
+      let ends = holds_read all.eq (walk-takes x (type_at d 0) width known.k false known.is big 0).ends in
+      omega (arith, ends.at)
 
 -- its length, by the descriptor's
 extent-small : (d : List ℕ) (p left : ℕ) → TypeStands d p left → (w k : ℕ) (j : Bool) → extent_of (type_at d p) ≡ Fixed w k j → w ≤ 8 * tree_size (type_at d p)
@@ -102,20 +99,19 @@ extent-small d p left stands w k j e =
     let few : Small 1 (Fixed w k j) (tree_size (type_at d p)) = rw e at (type-few d p left stands) in
     few.bytes
 
--- the members of d before i, no more than m, take as many bytes in all data
-pub record SpanLoop (d : List ℕ) (m p place i : ℕ) : Type 0 where
-  pub most : i ≤ m
+-- the members of d before i take as many bytes in all data
+pub record SpanLoop (d : List ℕ) (p place i : ℕ) : Type 0 where
   pub here : p ≡ place_from d (top_at d) i
   pub starts : (x : List ℕ) → DataOf d x → data_from d (top_at d) x i ≡ place
   pub small : place ≤ 8 * p
 
 -- the accepted descriptor d, whose member m carries the identifier
 module _ (d : List ℕ) (a : Accepted d) (m : ℕ) (bears : Bears d m) where
-  pub span-begin : (p : ℕ) → p ≡ top_at d → SpanLoop d m p 0 0
+  pub span-begin : (p : ℕ) → p ≡ top_at d → SpanLoop d p 0 0
   unfolding place_from data_from
-  span-begin p e = record { most = omega arith; here = e; starts = λ x w. refl; small = omega arith }
+  span-begin p e = record { here = e; starts = λ x w. refl; small = omega arith }
 
-  module _ (p place i : ℕ) (l : SpanLoop d m p place i) (more : i < m) where
+  module _ (p place i : ℕ) (l : SpanLoop d p place i) (more : i < m) where
     turn : RowTurn d (top_count d - (i + 1)) (place_from d (top_at d) i) depth_limit
     turn = turn_at d (top_count d) (top_at d) depth_limit (top-members d a bears.cluster).row i (omega (arith, bears.within))
 
@@ -134,10 +130,9 @@ module _ (d : List ℕ) (a : Accepted d) (m : ℕ) (bears : Bears d m) where
           let size : tree_size (type_at d p) ≡ size_in d p = rw l.here turn.size in
           omega (arith, extent-small d p depth_limit span-type w k j fixed)
 
-      pub span-again : (q : ℕ) → q ≡ p + size_in d p → SpanLoop d m q (place + w) (i + 1)
+      pub span-again : (q : ℕ) → q ≡ p + size_in d p → SpanLoop d q (place + w) (i + 1)
       unfolding place_from
       span-again q e = record {
-        most = omega arith;
         here = rw (add-one i) (e ∙ ap (λ (n : ℕ). n + size_in d n) l.here);
         starts = λ x v.
             let walked = member-data d x a bears.cluster v.end v.tokens v.eq i (omega (arith, bears.within)) in
@@ -148,42 +143,16 @@ module _ (d : List ℕ) (a : Accepted d) (m : ℕ) (bears : Bears d m) where
       }
 
   -- the span that was found
-  pub span-done : (p place i : ℕ) → SpanLoop d m p place i → m ≤ i → (width : ℕ) → width ≡ steady_width (extent_of (type_at d 0)) → Steady d m width place
-  span-done p place i l over width is =
-      let same : i ≡ m = omega (arith, l.most) in
-      record {
-        whole = λ some. steady-whole d width is some (small some);
-        long = λ some. steady-long d width is some;
-        placed = λ some x w. ap (λ (n : ℕ). data_from d (top_at d) x n) (sym same) ∙ l.starts x w;
-      }
-    where
-      small : 0 < width → width ≤ data_limit
-      small some =
-          let c = known d width is some in
-          let bytes = extent-small d 0 depth_limit (stands d a) c.0.w c.0.k false c.0.is in
-          omega (arith, c.1, type-size d 0 depth_limit (stands d a), top-short d a)
-
-  -- none was
-  pub span_none : (width place : ℕ) → width ≡ 0 → Steady d m width place
-  span_none width place e = record {
-    whole = λ some. absurd (omega arith);
-    long = λ some. absurd (omega arith);
-    placed = λ some. absurd (omega arith);
+  pub span-done : (p place i : ℕ) → SpanLoop d p place i → i ≡ m → (width : ℕ) → Some width ≡ steady_width (extent_of (type_at d 0))
+      → Steady d m (record { width = width; place = place })
+  span-done p place i l all width is = record {
+    whole = steady-whole d width is small;
+    long = steady-long d width is;
+    placed = λ x w. ap (λ (n : ℕ). data_from d (top_at d) x n) (sym all) ∙ l.starts x w;
   }
-
--- the width by its cases
-pub width-varies : (e : Extent) → e ≡ Varies → 0 ≡ steady_width e
-unfolding steady_width
-width-varies e is = sym (ap steady_width is)
-
-pub width-judged : (e : Extent) (w k : ℕ) (j : Bool) → e ≡ Fixed w k j → j ≡ true → 0 ≡ steady_width e
-unfolding steady_width
-width-judged e w k j is so = sym (ap steady_width is ∙ ap (λ (b : Bool). steady_width (Fixed w k b)) so)
-
-pub width-fixed : (e : Extent) (w k : ℕ) (j : Bool) → e ≡ Fixed w k j → j ≡ false → w ≡ steady_width e
-unfolding steady_width
-width-fixed e w k j is so = sym (ap steady_width is ∙ ap (λ (b : Bool). steady_width (Fixed w k b)) so)
-
-pub width-around : (e : Extent) (b a k : ℕ) (j : Bool) → e ≡ Around b a k j → 0 ≡ steady_width e
-unfolding steady_width
-width-around e b a k j is = sym (ap steady_width is)
+    where
+      small : width ≤ data_limit
+      small =
+          let c = known d width is in
+          let bytes = extent-small d 0 depth_limit (stands d a) width c.k false c.is in
+          omega (arith, type-size d 0 depth_limit (stands d a), top-short d a)

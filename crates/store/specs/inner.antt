@@ -1,5 +1,9 @@
 pub mod Identity
 pub mod Steady
 pub mod Entries
-pub mod Bodies
+pub mod Marks
+pub mod Blanks
+pub mod Judging
 pub mod Runs
+pub mod Opens
+pub mod Adding

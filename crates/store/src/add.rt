@@ -1,16 +1,19 @@
 // A record added at the end of a book.
 ghost use Rattle.std.specs.Prelude.{◌≡◌, ◌++◌, ◌+◌, ◌≤◌, length};
 ghost use Rattle.std.proofs.lemmas.List.Edits.{sets};
-ghost use Rattle.number.specs.Endian.{be_bytes};
 ghost use Rattle.store.specs.Questions.{with_record, added};
-ghost use Rattle.store.specs.inner.Entries.{Fits};
+ghost use Rattle.store.specs.inner.Entries.{entry_spelled};
+ghost use Rattle.store.specs.inner.Blanks.{blank_of};
+ghost use Rattle.store.specs.inner.Adding.{Fits, Admits};
 
+use super::blank::Blank;
+use super::entry::{Entry, entry_place};
 use super::identity::identify;
-use super::marks::entry_of;
+use super::marks::{Marks, entry_of};
 use super::open::open_marked;
-use super::spans::entry_place;
-use descriptor::answer::{Answer, answered};
-use number::endian::{be16, write_be};
+use descriptor::answer::{Answer, Input};
+use descriptor::refusal::Fault;
+use number::endian::write_be;
 
 // Writes a body at `at`.
 fn write_body(s: &mut [u8], at: usize, d: &[u8], x: &[u8])
@@ -23,24 +26,60 @@ fn write_body(s: &mut [u8], at: usize, d: &[u8], x: &[u8])
 }
 
 // Writes the four numbers of an entry at p.
-fn write_entry(s: &mut [u8], p: usize, identifier: usize, start: usize, first: usize, second: usize)
+fn write_entry(s: &mut [u8], p: usize, e: Entry)
     requires { p + 16 ≤ length s.old }
-    ensures { s.new ≡ sets s.old p (be_bytes 4 identifier ++ (be_bytes 4 start ++ (be_bytes 4 first ++ be_bytes 4 second))) }
+    ensures { s.new ≡ sets s.old p (entry_spelled e) }
 {
-    write_be(s, p, 4, identifier as u64);
-    write_be(s, p + 4, 4, start as u64);
-    write_be(s, p + 8, 4, first as u64);
-    write_be(s, p + 12, 4, second as u64);
+    write_be(s, p, 4, e.identifier as u64);
+    write_be(s, p + 4, 4, e.start as u64);
+    write_be(s, p + 8, 4, e.first as u64);
+    write_be(s, p + 12, 4, e.second as u64);
 }
 
-// Writes the record after the last body, which ends at `at`, its entry after the n in use, and the count.
-fn write_record(s: &mut [u8], n: usize, identifier: usize, at: usize, d: &[u8], x: &[u8])
-    requires { Fits s.old n at d.now x.now }
-    ensures { s.new ≡ with_record s.old n (record { identifier = identifier; start = at; descriptor = d.now; flattened = x.now }) }
+// Writes the record after the last body, its entry after the n in use, and the count.
+fn write_record(s: &mut [u8], n: usize, r: Blank)
+    requires { Fits s.old n (blank_of r) }
+    ensures { s.new ≡ with_record s.old n (blank_of r.entry) }
 {
-    write_body(s, at, d, x);
-    write_entry(s, entry_place(n), identifier, at, d.len(), x.len());
+    write_body(s, r.start, r.descriptor, r.flattened);
+    let e = Entry {
+        identifier: r.identifier,
+        start: r.start as u32,
+        first: r.descriptor.len() as u32,
+        second: r.flattened.len() as u32,
+    };
+    write_entry(s, entry_place(n), e);
     write_be(s, 2, 2, (n + 1) as u64);
+}
+
+// The record of d with the data x as it goes into the book, and the number of its entry; or why it may not.
+fn admit<'a>(s: &[u8], d: &'a [u8], x: &'a [u8]) -> Result<(usize, Blank<'a>), Answer>
+    ensures { Admits s.now d.now x.now result }
+{
+    let mut marks = Marks::new();
+    let book = match open_marked(s, &mut marks) {
+        Ok(book) => book,
+        Err(refusal) => return Err(refusal.of(Input::Request)),
+    };
+    let identifier = identify(d, x)?;
+    let n = match entry_of(book.entries, identifier, &marks) {
+        Ok(i) => return Err(Answer::refused(Fault::Taken, Input::Request, i)),
+        Err(n) => n,
+    };
+    if book.capacity <= n {
+        return Err(Answer::refused(Fault::NoEntry, Input::Request, 0));
+    }
+    let size = d.len() + x.len();
+    if s.len() < book.end + size {
+        return Err(Answer::refused(Fault::NoSpace, Input::Request, size));
+    }
+    let r = Blank {
+        identifier,
+        start: book.end,
+        descriptor: d,
+        flattened: x,
+    };
+    Ok((n, r))
 }
 
 // Adds the record of d with the data x to the book. A refusal leaves the book as it was.
@@ -48,28 +87,11 @@ pub fn store_add(s: &mut [u8], d: &[u8], x: &[u8]) -> Answer
     ensures answer { result ≡ (added s.old d.now x.now).answer }
     ensures wrote { s.new ≡ (added s.old d.now x.now).out }
 {
-    let mut marks = [0u8; 4096];
-    let book = open_marked(s, &mut marks);
-    if !book.ok {
-        return answered(book.number, 4, book.place);
+    match admit(s, d, x) {
+        Ok((n, r)) => {
+            write_record(s, n, r);
+            Answer::accepted(0)
+        }
+        Err(answer) => answer,
     }
-    let own = identify(d, x);
-    if !own.ok {
-        return own.answer;
-    }
-    let n = book.value;
-    let i = entry_of(s, n, own.value, &marks);
-    if i != n {
-        return answered(60, 4, i);
-    }
-    if be16(s, 0) <= n {
-        return answered(61, 4, 0);
-    }
-    let size = d.len() + x.len();
-    let at = book.next;
-    if s.len() < at + size {
-        return answered(62, 4, size);
-    }
-    write_record(s, n, own.value, at, d, x);
-    answered(0, 0, 0)
 }

@@ -1,35 +1,69 @@
 // Which identifiers were met: each leaves a mark, so that most are known to be new without a search.
-ghost use Rattle.std.specs.Prelude.{◌≡◌, not, set};
+ghost use Rattle.std.specs.Prelude.{◌≡◌, true, false, not, set, length, slice_index_or};
 ghost use Rattle.store.specs.Book.{is_one_of};
-ghost use Rattle.store.specs.inner.Entries.{Lies, Sought, mark_of, seen_before, Marked};
+ghost use Rattle.store.specs.inner.Entries.{seen_before, Placed};
+ghost use Rattle.store.specs.inner.Marks.{mark_count, mark_of, Marked};
 
-use super::seek::seek;
+use super::entry::Entries;
 
-// The first of the n entries that has this identifier, n where none has. Those have their marks: where it meets none, there is no search.
-pub fn entry_of(s: &[u8], n: usize, identifier: usize, marks: &[u8; 4096]) -> usize
-    requires lies { Lies s.now n }
-    requires marked { Marked s.now n marks.now }
-    ensures { Sought s.now n identifier result }
-{
-    let m = identifier % 4096;
-    if marks[m] == 0 {
-        return n;
-    }
-    seek(s, n, identifier)
+// How many marks there are.
+const MARK_COUNT: usize = 4096;
+
+// The marks, by the identifier modulo their count.
+#[derive(Drop)]
+pub struct Marks {
+    pub met: [bool; MARK_COUNT],
+    pub ghost long: { length met ≡ mark_count },
 }
 
-// Whether the identifier, that of entry i, is none of the entries before it. Those have their marks; so has entry i then.
-pub fn is_new(s: &[u8], i: usize, identifier: usize, marks: &mut [u8; 4096]) -> bool
-    requires lies { Lies s.now i }
-    requires marked_2 { Marked s.now i marks.old }
-    ensures fresh { result ≡ not (is_one_of identifier (seen_before s.now i)) }
-    ensures marked { marks.new ≡ set marks.old (mark_of identifier) 1 }
+impl Marks {
+    // None was left.
+    pub fn new() -> Marks {
+        Marks {
+            met: [false; MARK_COUNT],
+        }
+    }
+
+    // Whether the identifier's mark was met.
+    pub fn met(&self, identifier: u32) -> bool
+        ensures { result ≡ slice_index_or self.now.met (mark_of identifier) false }
+    {
+        self.met[identifier as usize % MARK_COUNT]
+    }
+
+    // The identifier leaves its mark.
+    pub fn leave(&mut self, identifier: u32)
+        ensures { self.new.met ≡ set self.old.met (mark_of identifier) true }
+    {
+        self.met[identifier as usize % MARK_COUNT] = true;
+    }
+}
+
+// The first entry that has this identifier; else the number of the entry that a record with it gets, which is how many there are. Those have
+// left their marks: where it meets none, there is no search.
+pub fn entry_of(entries: Entries, identifier: u32, marks: &Marks) -> Result<usize, usize>
+    requires { Marked entries.bytes.now entries.count marks.now.met }
+    ensures { Placed entries.entry.bytes.now entries.entry.count identifier result }
 {
-    let m = identifier % 4096;
-    let met = marks[m];
-    marks[m] = 1;
-    if met == 0 {
+    if !marks.met(identifier) {
+        return Err(entries.count);
+    }
+    match entries.seek(identifier) {
+        Some(i) => Ok(i),
+        None => Err(entries.count),
+    }
+}
+
+// Whether the identifier, that of the entry after these, is none of theirs. They have left their marks; so has it then.
+pub fn is_new(entries: Entries, identifier: u32, marks: &mut Marks) -> bool
+    requires { Marked entries.bytes.now entries.count marks.old.met }
+    ensures fresh { result ≡ not (is_one_of identifier (seen_before entries.entry.bytes.now entries.entry.count)) }
+    ensures marked { marks.new.met ≡ set marks.old.met (mark_of identifier) true }
+{
+    let met = marks.met(identifier);
+    marks.leave(identifier);
+    if !met {
         return true;
     }
-    seek(s, i, identifier) == i
+    entries.seek(identifier).is_none()
 }

@@ -1,94 +1,95 @@
 // Any bytes as a book.
-ghost use Rattle.std.specs.Prelude.{◌≡◌, [], length};
-ghost use Rattle.descriptor.specs.inner.Steps.{counted};
-ghost use Rattle.store.specs.Check.{entries_at, opened};
-ghost use Rattle.store.specs.inner.Entries.{Lies, mark_count};
-ghost use Rattle.store.specs.inner.Runs.{LeftMarks};
+ghost use Rattle.std.specs.Prelude.{◌≡◌, [], IfOk};
+ghost use Rattle.store.specs.Check.{entries_at};
+ghost use Rattle.store.specs.inner.Marks.{Marked};
+ghost use Rattle.resolution.specs.inner.Data.{end_of};
+ghost use Rattle.store.specs.inner.Opens.{Opens};
 
-use super::bodies::{judge_descriptor, lies, nothing, same_again, says_walked};
-use super::marks::is_new;
-use super::runs::run_on;
-use super::spans::{BOOK_LIMIT, entry_at, entry_place};
+use super::bodies::says_walked;
+use super::entry::{BOOK_LIMIT, Entries, entry_place};
+use super::judged::Recent;
+use super::marks::{Marks, is_new};
+use super::runs::{Run, run_on};
 use super::unused::check_unused;
-use descriptor::step::{Step, accept, refuse};
+use descriptor::refusal::{Fault, Refusal};
 use number::endian::be16;
 
-// The n entries in use, whose bodies start at `from`: the next byte is where the last ends. They leave their marks.
-fn check_used(s: &[u8], n: usize, from: usize, marks: &mut [u8; 4096]) -> Step
-    requires lies { Lies s.now n }
-    requires marks_len { length marks.old ≡ mark_count }
-    ensures used { result ≡ counted length (entries_at s.now [] n 0 from) }
-    ensures marked { LeftMarks s.now result marks.new }
-{
-    let mut starts = [0u32; 257];
-    let mut last = nothing();
-    let mut other = nothing();
-    let mut at = from;
-    let mut i = 0;
-    while i < n {
-        let e = entry_at(s, entry_place(i));
-        if !lies(s, e, at) {
-            return refuse(63, i);
-        }
-        if !same_again(s, e.start, e.first, last) {
-            let d = judge_descriptor(s, e.start, e.first, other);
-            if d.right == 0 {
-                return refuse(63, i);
-            }
-            other = last;
-            last = d;
-        }
-        let middle = e.start + e.first;
-        if !says_walked(s, last, middle, e.second, e.identifier, &mut starts) {
-            return refuse(63, i);
-        }
-        if !is_new(s, i, e.identifier, marks) {
-            return refuse(63, i);
-        }
-        let run = run_on(s, n, i + 1, middle + e.second, last, marks);
-        at = run.at;
-        i = run.next;
-    }
-    accept(at, n, 0)
+// A book: its entries in use, how many entries it has, and where its last body ends.
+#[derive(Clone, Copy)]
+pub struct Book<'a> {
+    pub entries: Entries<'a>,
+    pub capacity: usize,
+    pub end: usize,
 }
 
-// The book that the bytes are: the next byte is where its last body ends, the value how many records it has. Their identifiers leave marks.
-pub fn open_marked(s: &[u8], marks: &mut [u8; 4096]) -> Step
-    requires { length marks.old ≡ mark_count }
-    ensures book { result ≡ counted (λ b. length b.blanks) (opened s.now) }
-    ensures marked { LeftMarks s.now result marks.new }
+// The entries in use, whose bodies start at `from`: where the last body ends. They leave their marks, where none was left.
+fn check_used(entries: Entries, from: usize, marks: &mut Marks) -> Result<usize, Refusal>
+    ensures used { result ≡ end_of (entries_at entries.entry.bytes.now [] entries.entry.count 0 from) }
+    ensures marked { IfOk result (λ _. Marked entries.entry.bytes.now entries.entry.count marks.new.met) }
+{
+    let mut starts = [0u32; 257];
+    let mut recent = Recent {
+        last: None,
+        other: None,
+    };
+    let mut run = Run { next: 0, at: from };
+    // One turn may go over many entries.
+    while run.next < entries.count {
+        let i = run.next;
+        let Some(r) = entries.blank(i, run.at) else {
+            return Err(Fault::Book.at(i));
+        };
+        let Some(d) = recent.judge(r.descriptor) else {
+            return Err(Fault::Book.at(i));
+        };
+        if !says_walked(d, r, &mut starts) {
+            return Err(Fault::Book.at(i));
+        }
+        if !is_new(entries.first(i), r.identifier, marks) {
+            return Err(Fault::Book.at(i));
+        }
+        let one = Run {
+            next: i + 1,
+            at: r.stop(),
+        };
+        run = run_on(entries, one, d, marks);
+    }
+    Ok(run.at)
+}
+
+// The book that the bytes are. The identifiers of its entries in use leave marks.
+pub fn open_marked<'a>(s: &'a [u8], marks: &mut Marks) -> Result<Book<'a>, Refusal>
+    ensures book { Opens s.now result }
+    ensures marked { IfOk result (λ b. Marked s.now b.entries.count marks.new.met) }
 {
     let size = s.len();
-    if size < 4 {
-        return refuse(63, 0);
-    }
-    if BOOK_LIMIT < size {
-        return refuse(63, 0);
+    if size < 4 || BOOK_LIMIT < size {
+        return Err(Fault::Book.at(0));
     }
     let capacity = be16(s, 0);
     let n = be16(s, 2);
-    let end = entry_place(capacity);
-    if size < end {
-        return refuse(63, capacity);
+    let contents = entry_place(capacity);
+    if size < contents || capacity < n {
+        return Err(Fault::Book.at(capacity));
     }
-    if capacity < n {
-        return refuse(63, capacity);
-    }
-    let used = check_used(s, n, end, marks);
-    if !used.ok {
-        return used;
-    }
-    let unused = check_unused(s, n, capacity);
-    if !unused.ok {
-        return unused;
-    }
-    used
+    let all = Entries {
+        bytes: s,
+        count: capacity,
+    };
+    let entries = all.first(n);
+    let end = check_used(entries, contents, marks)?;
+    check_unused(all, n)?;
+    Ok(Book {
+        entries,
+        capacity,
+        end,
+    })
 }
 
 // The same, where the marks serve nobody after it.
-pub fn open_book(s: &[u8]) -> Step
-    ensures { result ≡ counted (λ b. length b.blanks) (opened s.now) }
+pub fn open_book(s: &[u8]) -> Result<Book<'_>, Refusal>
+    ensures { Opens s.now result }
 {
-    let mut marks = [0u8; 4096];
+    let mut marks = Marks::new();
     open_marked(s, &mut marks)
 }

@@ -5,22 +5,18 @@ ghost use Rattle.store.specs.Check.{book_check};
 ghost use Rattle.store.specs.Questions.{found, found_body, listed};
 
 use super::open::open_book;
-use super::seek::seek;
-use super::spans::{entry_at, entry_place};
 use access::part::{Part, no_part};
-use descriptor::answer::{Answer, answered};
-use members::columns::position;
-use number::endian::be32;
+use descriptor::answer::{Answer, Input};
+use descriptor::refusal::Fault;
 
 // Whether the bytes are a book.
 pub fn store_check(s: &[u8]) -> Answer
     ensures { result ≡ book_check s.now }
 {
-    let book = open_book(s);
-    if !book.ok {
-        return answered(book.number, 4, book.place);
+    match open_book(s) {
+        Ok(_) => Answer::accepted(0),
+        Err(refusal) => refusal.of(Input::Request),
     }
-    answered(0, 0, 0)
 }
 
 // Where the whole body of the record with this identifier stands in the book.
@@ -28,21 +24,18 @@ pub fn store_find(s: &[u8], identifier: u32) -> Part
     ensures value { result ≡ found s.now identifier }
     ensures within { result.start + result.length ≤ length s.now }
 {
-    let book = open_book(s);
-    if !book.ok {
-        return no_part(answered(book.number, 4, book.place));
-    }
-    let n = book.value;
-    let i = seek(s, n, position(identifier));
-    if i == n {
-        return no_part(answered(64, 4, 0));
-    }
-    let e = entry_at(s, entry_place(i));
-    let answer = answered(0, 0, 0);
+    let book = match open_book(s) {
+        Ok(book) => book,
+        Err(refusal) => return no_part(refusal.of(Input::Request)),
+    };
+    let Some(i) = book.entries.seek(identifier) else {
+        return no_part(Answer::refused(Fault::NotFound, Input::Request, 0));
+    };
+    let e = book.entries.at(i);
     Part {
-        answer,
-        start: e.start,
-        length: e.first + e.second,
+        answer: Answer::accepted(0),
+        start: e.start as usize,
+        length: e.first as usize + e.second as usize,
     }
 }
 
@@ -62,18 +55,16 @@ pub fn store_list(s: &[u8], out: &mut [u32]) -> Answer
     ensures answer { result ≡ (listed s.now out.old).answer }
     ensures wrote { out.new ≡ (listed s.now out.old).out }
 {
-    let book = open_book(s);
-    if !book.ok {
-        return answered(book.number, 4, book.place);
-    }
-    let n = book.value;
+    let book = match open_book(s) {
+        Ok(book) => book,
+        Err(refusal) => return refusal.of(Input::Request),
+    };
+    let n = book.entries.count;
     if out.len() < n {
-        return answered(50, 4, n);
+        return Answer::refused(Fault::Room, Input::Request, n);
     }
-    let mut i = 0;
-    while i < n {
-        out[i] = be32(s, entry_place(i)) as u32;
-        i += 1;
+    for (i, place) in out[..n].iter_mut().enumerate() {
+        *place = book.entries.identifier(i);
     }
-    answered(0, 0, n)
+    Answer::accepted(n)
 }

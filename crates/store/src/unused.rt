@@ -1,13 +1,12 @@
 // Unused entries: each of them is zero.
 ghost use Rattle.std.specs.Prelude.{◌≡◌, ◌+◌, ◌-◌, ◌≤◌, length, replicate};
 ghost use Rattle.std.proofs.Math.Seq.{slice};
-ghost use Rattle.descriptor.specs.inner.Steps.{counted};
 ghost use Rattle.canonical.specs.Equality.{same_chars};
 ghost use Rattle.store.specs.Check.{unused_at};
-ghost use Rattle.store.specs.inner.Entries.{Lies};
+ghost use Rattle.resolution.specs.inner.Data.{passed};
 
-use super::spans::entry_place;
-use descriptor::step::{Step, accept, refuse};
+use super::entry::{Entries, entry_place};
+use descriptor::refusal::{Fault, Refusal};
 use elements::largest::largest;
 use flattened::order::Order;
 
@@ -19,20 +18,18 @@ fn is_zero(s: &[u8], from: usize, size: usize) -> bool
     largest(s, from, 1, 1, size, Order::Big) == 0
 }
 
-// The unused entries from n up to the capacity, all at once; where one is not zero, one after the other.
-pub fn check_unused(s: &[u8], n: usize, capacity: usize) -> Step
-    requires { (n ≤ capacity) × Lies s.now capacity }
-    ensures { result ≡ counted (λ _. 0) (unused_at s.now (capacity - n) n) }
+// Of these entries, those from n on, which are not in use, all at once; where one is not zero, one after the other.
+pub fn check_unused(entries: Entries, n: usize) -> Result<(), Refusal>
+    requires { n ≤ entries.count }
+    ensures { result ≡ passed (unused_at entries.entry.bytes.now (entries.entry.count - n) n) }
 {
-    if is_zero(s, entry_place(n), 16 * (capacity - n)) {
-        return accept(capacity, 0, 0);
+    if is_zero(entries.bytes, entry_place(n), 16 * (entries.count - n)) {
+        return Ok(());
     }
-    let mut i = n;
-    while i < capacity {
-        if !is_zero(s, entry_place(i), 16) {
-            return refuse(63, i);
+    for i in n..entries.count {
+        if !is_zero(entries.bytes, entry_place(i), 16) {
+            return Err(Fault::Book.at(i));
         }
-        i += 1;
     }
-    accept(capacity, 0, 0)
+    Ok(())
 }

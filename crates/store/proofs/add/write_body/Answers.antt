@@ -4,6 +4,4 @@ use Rattle.store.proofs.Adding.{body-copied}
 use Rattle.store.proofs.add.write_body.Goals as goal
 
 pub returns : goal.returns
-returns c =
-    let b = c in
-    body-copied b.args.s.now b.args.d.now b.args.x.now b.args.at _ refl b.requires _ c.copy.ensures _ refl _ c.copy-2.ensures
+returns c = body-copied c.args.s.now c.args.d.now c.args.x.now c.args.at _ refl c.requires _ c.copy.ensures _ refl _ c.copy-2.ensures

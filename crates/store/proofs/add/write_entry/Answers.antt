@@ -6,5 +6,7 @@ use Rattle.store.proofs.add.write_entry.Goals as goal
 
 pub returns : goal.returns
 returns c =
-    let b = c in
-    entry-written b.args.s.now _ _ _ _ (be_bytes 4 b.args.identifier) (be_bytes 4 b.args.start) (be_bytes 4 b.args.first) (be_bytes 4 b.args.second) b.args.p (length-be_bytes 4 b.args.identifier) (length-be_bytes 4 b.args.start) (length-be_bytes 4 b.args.first) c.write_be.ensures c.write_be-2.ensures c.write_be-3.ensures c.write_be-4.ensures
+    let e = c.args.e in
+    entry-written c.args.s.now _ _ _ _ (be_bytes 4 e.identifier) (be_bytes 4 e.start) (be_bytes 4 e.first) (be_bytes 4 e.second) c.args.p
+    (length-be_bytes 4 e.identifier) (length-be_bytes 4 e.start) (length-be_bytes 4 e.first) c.write_be.ensures c.write_be-2.ensures c.write_be-3.ensures
+    c.write_be-4.ensures

@@ -1,20 +1,20 @@
 -- `fixed_width` takes the extent of the top. Rests on `Steady`.
-use mathlib.Core.Path.{sym, ◌∙◌}
+use Rattle.std.proofs.Common.{rules}
 use Rattle.records.proofs.Topmost.{stands}
-use Rattle.store.proofs.Steady.{width-varies, width-judged, width-fixed, width-around}
+use Rattle.store.specs.inner.Steady.{steady_width}
 use Rattle.store.proofs.fixed.fixed_width.Goals as goal
 
-pub extent_of-extent-requires : goal.extent_of-extent-requires
-extent_of-extent-requires c = stands c.args.d.now c.requires
+pub extent_of-requires : goal.extent_of-requires
+extent_of-requires c = stands c.args.d.now c.requires
 
-pub returns-in-Varies : goal.returns-in-Varies
-returns-in-Varies c = width-varies _ (sym c.extent_of-extent.ensures ∙ c.in-Varies.is)
+pub returns-in-Fixed-default-default-false : goal.returns-in-Fixed-default-default-false
+unfolding steady_width
+returns-in-Fixed-default-default-false c = search rules
 
-pub returns-then-j : goal.returns-then-j
-returns-then-j c = width-judged _ _ _ _ (sym c.extent_of-extent.ensures ∙ c.in-Fixed.is) c.if-j.true
+pub returns-in_default : goal.returns-in_default
+unfolding steady_width
+returns-in_default c = search rules
 
-pub returns-else-j : goal.returns-else-j
-returns-else-j c = width-fixed _ _ _ _ (sym c.extent_of-extent.ensures ∙ c.in-Fixed.is) c.if-j.false
-
-pub returns-in-Around : goal.returns-in-Around
-returns-in-Around c = width-around _ _ _ _ _ (sym c.extent_of-extent.ensures ∙ c.in-Around.is)
+pub returns-in_default-2 : goal.returns-in_default-2
+unfolding steady_width
+returns-in_default-2 c = search rules

@@ -1,14 +1,14 @@
 -- `is_new` looks at the mark, and searches where there is one. Rests on `Marking`.
-use mathlib.Core.Path.{refl}
-use Rattle.store.proofs.Marking.{new-unmarked, new-sought}
+use mathlib.Core.Path.{sym, ◌∙◌}
+use Rattle.store.proofs.Marking.{unmarked, new-unseen, new-sought}
 use Rattle.store.proofs.marks.is_new.Goals as goal
 
-pub returns-then-met-eq0 : goal.returns-then-met-eq0
-returns-then-met-eq0 c =
-    let b = c in
-    record { fresh = new-unmarked b.args.s.now b.args.i b.args.identifier b.args.marks.now b.requires.marked_2 _ refl c.if-met-eq0.true; marked = refl }
+pub returns-then-not-met-clause-fresh : goal.returns-then-not-met-clause-fresh
+returns-then-not-met-clause-fresh c =
+    let entries = c.args.entries in
+    new-unseen entries.bytes.now entries.count c.args.identifier
+    (unmarked entries.bytes.now entries.count c.args.identifier _ c.requires (sym c.met-met.ensures ∙ c.if-not-met.true))
 
-pub returns : goal.returns
-returns c =
-    let b = c in
-    record { fresh = new-sought b.args.s.now b.args.i b.args.identifier _ c.seek.ensures; marked = refl }
+pub returns-clause-fresh : goal.returns-clause-fresh
+returns-clause-fresh c =
+    new-sought c.args.entries.bytes.now c.args.entries.count c.args.identifier _ c.seek.ensures _ c.is_none.ensures

@@ -1,43 +1,39 @@
--- `open_marked` judges the sizes, the entries in use and the unused ones. Rests on `Opening`.
-use mathlib.Core.Path.{ap, ◌∙◌}
-use Prim.Native.Nat.{ℕ}
+-- `open_marked` judges the sizes, the entries in use and the unused ones. Rests on `Whole`.
+use mathlib.Core.Path.{refl, ◌∙◌}
 use native.Mathlib.Omega.{arith}
-use mathlib.Core.List.{[]}
-use lib.ListN.{length}
-use borrow.Author.Tests.{not-true, not-false}
-use Rattle.descriptor.specs.inner.Steps.{counted}
-use Rattle.descriptor.specs.declared.step.Step.{Step}
-use Rattle.store.specs.Check.{entries_at}
-use Rattle.store.proofs.Opening.{open-short, open-long, open-narrow, open-crowded, open-bad, open-dirty, open_done, marks-lost}
+use Rattle.std.proofs.lemmas.Result.{err_from_is_err_and}
+use Rattle.store.proofs.Whole.{open-size, open-room, open-bad, open-dirty, open_done}
 use Rattle.store.proofs.open.open_marked.Goals as goal
 
-pub returns-then-size-lt4 : goal.returns-then-size-lt4
-returns-then-size-lt4 c = record { book = c.refuse.ensures ∙ open-short c.args.s.now c.if-size-lt4.true; marked = marks-lost c.args.s.now _ _ (ap (λ (t : Step). t.ok) c.refuse.ensures) }
+pub returns-then-size-lt4-clause-book : goal.returns-then-size-lt4-clause-book
+returns-then-size-lt4-clause-book c = rw c.at.ensures (open-size c.args.s.now c.then-size-lt4.either)
 
-pub returns-then-size-gt-BOOK_LIMIT : goal.returns-then-size-gt-BOOK_LIMIT
-returns-then-size-gt-BOOK_LIMIT c = record { book = c.refuse-then-size-gt-BOOK_LIMIT.ensures ∙ open-long c.args.s.now c.if-size-lt4.false c.if-size-gt-BOOK_LIMIT.true; marked = marks-lost c.args.s.now _ _ (ap (λ (t : Step). t.ok) c.refuse-then-size-gt-BOOK_LIMIT.ensures) }
+pub returns-then-size-contents-clause-book : goal.returns-then-size-contents-clause-book
+returns-then-size-contents-clause-book c =
+    rw c.at-then-size-contents.ensures
+    (open-room c.args.s.now c.if-size-lt4.false c.if-size-gt-BOOK_LIMIT.false _ _ c.be16-capacity.ensures.eq c.be16-n.ensures.eq
+    (rw c.entry_place-contents.ensures at c.then-size-contents.either))
 
-pub returns-then-size-end : goal.returns-then-size-end
-returns-then-size-end c =
-    let s = c.args.s.now in
-    record { book = c.refuse-then-size-end.ensures ∙ open-narrow s c.if-size-lt4.false c.if-size-gt-BOOK_LIMIT.false _ _ c.be16-capacity.ensures.eq c.be16-n.ensures.eq (omega (arith, c.entry_place-end.ensures, c.if-size-end.true)); marked = marks-lost s _ _ (ap (λ (t : Step). t.ok) c.refuse-then-size-end.ensures) }
+pub returns-in_err-end-clause-book : goal.returns-in_err-end-clause-book
+returns-in_err-end-clause-book c =
+    let p = err_from_is_err_and c.from_residual.result c.from_residual.ensures.1 in
+    rw (p.1, p.2)
+    (open-bad c.args.s.now c.if-size-lt4.false c.if-size-gt-BOOK_LIMIT.false _ _ c.be16-capacity.ensures.eq c.be16-n.ensures.eq
+    (omega (arith, c.entry_place-contents.ensures)) c.if-capacity-n.false _
+    (rw (c.first-entries.ensures.bytes, c.first-entries.ensures.count, c.entry_place-contents.ensures) at c.in_err-end.ensures.used))
 
-pub returns-then-capacity-n : goal.returns-then-capacity-n
-returns-then-capacity-n c =
-    let s = c.args.s.now in
-    record { book = c.refuse-then-capacity-n.ensures ∙ open-crowded s c.if-size-lt4.false c.if-size-gt-BOOK_LIMIT.false _ _ c.be16-capacity.ensures.eq c.be16-n.ensures.eq (omega (arith, c.entry_place-end.ensures, c.if-size-end.false)) c.if-capacity-n.true; marked = marks-lost s _ _ (ap (λ (t : Step). t.ok) c.refuse-then-capacity-n.ensures) }
+pub returns-in_err-check_unused-clause-book : goal.returns-in_err-check_unused-clause-book
+returns-in_err-check_unused-clause-book c =
+    let p = err_from_is_err_and c.from_residual-in_err-check_unused.result c.from_residual-in_err-check_unused.ensures.1 in
+    rw (p.1, p.2)
+    (open-dirty c.args.s.now c.if-size-lt4.false c.if-size-gt-BOOK_LIMIT.false _ _ c.be16-capacity.ensures.eq c.be16-n.ensures.eq
+    (omega (arith, c.entry_place-contents.ensures)) c.if-capacity-n.false _
+    (rw (c.first-entries.ensures.bytes, c.first-entries.ensures.count, c.entry_place-contents.ensures) at c.in_ok-end.ensures.used) _
+    c.in_err-check_unused.ensures)
 
-pub returns-then-not-used : goal.returns-then-not-used
-returns-then-not-used c =
-    let s = c.args.s.now in
-    record { book = open-bad s c.if-size-lt4.false c.if-size-gt-BOOK_LIMIT.false _ _ c.be16-capacity.ensures.eq c.be16-n.ensures.eq (omega (arith, c.entry_place-end.ensures, c.if-size-end.false)) c.if-capacity-n.false _ (c.check_used-used.ensures.used ∙ ap (λ (p : ℕ). counted length (entries_at s [] c.be16-n.result 0 p)) c.entry_place-end.ensures) (not-true _ c.if-not-used.true); marked = c.check_used-used.ensures.marked }
-
-pub returns-then-not-unused : goal.returns-then-not-unused
-returns-then-not-unused c =
-    let s = c.args.s.now in
-    record { book = open-dirty s c.if-size-lt4.false c.if-size-gt-BOOK_LIMIT.false _ _ c.be16-capacity.ensures.eq c.be16-n.ensures.eq (omega (arith, c.entry_place-end.ensures, c.if-size-end.false)) c.if-capacity-n.false _ (c.check_used-used.ensures.used ∙ ap (λ (p : ℕ). counted length (entries_at s [] c.be16-n.result 0 p)) c.entry_place-end.ensures) (not-false _ c.if-not-used.false) _ c.check_unused-unused.ensures (not-true _ c.if-not-unused.true); marked = marks-lost s _ _ (not-true _ c.if-not-unused.true) }
-
-pub returns : goal.returns
-returns c =
-    let s = c.args.s.now in
-    record { book = open_done s c.if-size-lt4.false c.if-size-gt-BOOK_LIMIT.false _ _ c.be16-capacity.ensures.eq c.be16-n.ensures.eq (omega (arith, c.entry_place-end.ensures, c.if-size-end.false)) c.if-capacity-n.false _ (c.check_used-used.ensures.used ∙ ap (λ (p : ℕ). counted length (entries_at s [] c.be16-n.result 0 p)) c.entry_place-end.ensures) (not-false _ c.if-not-used.false) _ c.check_unused-unused.ensures (not-false _ c.if-not-unused.false); marked = c.check_used-used.ensures.marked }
+pub returns-clause-book : goal.returns-clause-book
+returns-clause-book c =
+    open_done c.args.s.now c.if-size-lt4.false c.if-size-gt-BOOK_LIMIT.false _ _ c.be16-capacity.ensures.eq c.be16-n.ensures.eq
+    (omega (arith, c.entry_place-contents.ensures)) c.if-capacity-n.false _
+    (rw (c.first-entries.ensures.bytes, c.first-entries.ensures.count, c.entry_place-contents.ensures) at c.in_ok-end.ensures.used)
+    c.in_ok-check_unused.ensures _ c.first-entries.ensures.bytes c.first-entries.ensures.count refl refl

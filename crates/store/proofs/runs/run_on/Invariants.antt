@@ -1,10 +1,10 @@
--- `run_on` goes over entries of one descriptor whose data has one width. Rests on `Judging` and `Opening`.
-use Prim.Native.Nat.{◌-◌}
-use Rattle.store.proofs.Opening.{RunLoop}
+-- `run_on` goes over entries of one descriptor whose data has one span. Rests on `Opening`.
+use mathlib.Core.Path.{◌≡◌}
+use Rattle.store.specs.inner.Runs.{Ran}
 use Rattle.store.proofs.runs.run_on.Given as goal
 
 abbrev pub invariant-loop-i : goal.invariant-loop-i
-invariant-loop-i l = RunLoop l.s l.n l.initial.marks l.from l.first l.marks l.at l.i
-
-abbrev pub decreases-loop-i : goal.decreases-loop-i
-decreases-loop-i l = l.n - l.i
+invariant-loop-i l = record {
+  here : l.run.next ≡ l.i;
+  ran : Ran l.entries.bytes.now l.entries.count l.initial.marks.met l.initial.run l.marks.met l.run;
+}

@@ -8,6 +8,5 @@ use Rattle.store.proofs.unused.is_zero.Goals as goal
 pub returns : goal.returns
 unfolding order_of
 returns c =
-    let b = c in
-    let s = b.args.s.now in
-    zeros-so s (bytes_of s (λ n. omega (arith, c.shared_slice_known-1.given n))) b.args.from b.args.size b.requires _ c.largest.ensures
+    let s = c.args.s.now in
+    zeros-so s (bytes_of s (λ n. omega (arith, c.type_inv.s n))) c.args.from c.args.size c.requires _ c.largest.ensures

@@ -1,0 +1,26 @@
+-- A record that is added, as the code judges and writes it.
+use Rattle.std.specs.Prelude.{◌≡◌, List, ℕ, ◌+◌, ◌≤◌, length, Result, Ok, Err}
+use Rattle.descriptor.specs.Answers.{accepted}
+use Rattle.descriptor.specs.Output.{unwritten}
+use Rattle.descriptor.specs.declared.answer.Answer.{Answer}
+use Rattle.store.specs.Book.{Blank, stop_of}
+use Rattle.store.specs.Layout.{book_limit, entry_place}
+use Rattle.store.specs.Questions.{with_record, added}
+use Rattle.store.specs.inner.Blanks.{blank_of}
+use Rattle.store.specs.declared.blank.Blank.{Blank as Lent}
+
+-- the record fits behind the last body, where its own starts, and its entry after n others
+pub record Fits (s : List ℕ) (n : ℕ) (r : Blank) : Type 0 where
+  pub room : stop_of r ≤ length s
+  pub entry : entry_place n + 16 ≤ r.start
+  pub short : length s ≤ book_limit
+
+-- the record of d and x goes into the book so
+pub record Admitted (s d x : List ℕ) (n : ℕ) (r : Blank) : Type 0 where
+  pub fits : Fits s n r
+  pub is : added s d x ≡ record { answer = accepted 0; out = with_record s n r }
+
+-- it does, or is refused
+abbrev pub Admits : List ℕ → List ℕ → List ℕ → Result (ℕ × Lent) Answer → Type 0
+Admits s d x (Ok r) = Admitted s d x r.0 (blank_of r.1)
+Admits s d x (Err a) = added s d x ≡ unwritten s a.number a.input a.place
