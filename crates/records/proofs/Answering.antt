@@ -19,6 +19,7 @@ use Rattle.descriptor.specs.Output.{Written, unwritten, written_to}
 use Rattle.descriptor.specs.declared.refusal.Refusal.{Refusal}
 use Rattle.descriptor.proofs.Outcomes.{Holds, found, holds_read, holds-require, holds-and_then, holds-self}
 use Rattle.canonical.specs.inner.Walk.{Accepted}
+use Rattle.canonical.proofs.Whole.{accepted_of}
 use Rattle.flattened.specs.Order.{big}
 use Rattle.flattened.specs.Token.{Token}
 use Rattle.flattened.specs.Walk.{walk, walk_all, walked}
@@ -34,7 +35,7 @@ use Rattle.resolution.specs.inner.Tops.{is_cluster, TopStarts, NamesRight, Names
 use Rattle.resolution.proofs.Ends.{passed-lost, passed-got}
 use Rattle.records.specs.inner.Ready.{Ready}
 use Rattle.descriptor.proofs.Checked.{judged-refused, judged-place}
-use Rattle.canonical.proofs.Judged.{judged-accepted}
+use Rattle.canonical.proofs.Judged.{refused_low, judged-accepted}
 use Rattle.records.proofs.Topmost.{top-tree, top-members, top-walk, top-writers, writers-none}
 use Rattle.records.proofs.Gathered.{data-walked, data-inside, data-order, gathered}
 
@@ -239,4 +240,4 @@ module _ (w r s out : List ℕ) (writer : Accepted w) (accepted : Accepted r) wh
       }
 
 -- what a reading finds its answers with
-pub ruleset reading_laws = (walk-refused, naming-refused, cluster-refused, made-ready, writer-refused, reader-refused, judged-refused, judged-place, judged-accepted)
+pub ruleset reading_laws = (accepted_of, refused_low, walk-refused, naming-refused, cluster-refused, made-ready, writer-refused, reader-refused, judged-refused, judged-place, judged-accepted)

@@ -24,6 +24,7 @@ use Rattle.descriptor.proofs.Outcomes.{holds_read}
 use Rattle.descriptor.proofs.Standing.{accepted-standing, standing-low, row_ends}
 use Rattle.descriptor.proofs.Steps.{impossible}
 use Rattle.canonical.specs.inner.Walk.{Accepted}
+use Rattle.canonical.proofs.Whole.{accepted_of}
 use Rattle.flattened.specs.Order.{big}
 use Rattle.flattened.specs.Token.{Token}
 use Rattle.flattened.specs.Walk.{walk_fields, walk, walk_all, walked}
@@ -311,4 +312,4 @@ module _ (d : List ℕ) (a : Accepted d) where
         data-whole h = sym (simp (le-leb (length s) data_limit short, ended.1, eq-eqb end (length s) h))
 
 -- what the top finds its answers with
-pub ruleset top_laws = (header-room, top-cluster, top-single, names-none, names-lost, names-got, data-long, data-lost, data-place, data-end, data-over, data-whole)
+pub ruleset top_laws = (accepted_of, header-room, top-cluster, top-single, names-none, names-lost, names-got, data-long, data-lost, data-place, data-end, data-over, data-whole)

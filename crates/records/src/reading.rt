@@ -1,6 +1,5 @@
 // The record in a reader's shape.
 ghost use Rattle.std.specs.Prelude.{◌≡◌};
-ghost use Rattle.canonical.specs.inner.Walk.{Accepted};
 ghost use Rattle.resolution.specs.Record.{resolved};
 ghost use Rattle.records.specs.inner.Ready.{Ready};
 
@@ -10,7 +9,7 @@ use descriptor::refusal::Fault;
 use members::joining::copy_picked;
 use members::roster::Roster;
 use resolution::picking::pick_all;
-use validation::validate::validate;
+use validation::accepted::Descriptor;
 
 // Reads the reader's members from the cluster w, once all else is judged.
 fn read_members(w: &[u8], reader: &Roster, s: &[u8], out: &mut [u8], starts: &[u32; 257]) -> Answer
@@ -35,11 +34,9 @@ fn read_members(w: &[u8], reader: &Roster, s: &[u8], out: &mut [u8], starts: &[u
 
 // Reads the data s of w in the shape of r, both accepted: the data, then the reader's names, then whether the rig's top is a cluster.
 #[tactic(auto, using(crate::proofs::Answering::reading_laws))]
-fn read_accepted(w: &[u8], r: &[u8], s: &[u8], out: &mut [u8]) -> Answer
-    requires writer { Accepted w.now }
-    requires reader { Accepted r.now }
-    ensures answer { result ≡ (resolved w.now r.now s.now out.old).answer }
-    ensures wrote { out.new ≡ (resolved w.now r.now s.now out.old).out }
+fn read_accepted(w: Descriptor, r: Descriptor, s: &[u8], out: &mut [u8]) -> Answer
+    ensures answer { result ≡ (resolved w.entry.bytes.now r.entry.bytes.now s.now out.old).answer }
+    ensures wrote { out.new ≡ (resolved w.entry.bytes.now r.entry.bytes.now s.now out.old).out }
 {
     let mut starts = [0u32; 257];
     if let Err(stopped) = walk_top(w, s, &mut starts) {
@@ -51,10 +48,10 @@ fn read_accepted(w: &[u8], r: &[u8], s: &[u8], out: &mut [u8]) -> Answer
         Ok(reader) => reader,
         Err(wrong) => return wrong.of(Input::Second),
     };
-    if !is_cluster(w) {
+    if !is_cluster(w.bytes) {
         return Answer::refused(Fault::Writer, Input::First, 0);
     }
-    read_members(w, &reader, s, out, &starts)
+    read_members(w.bytes, &reader, s, out, &starts)
 }
 
 // Writes the reader's members' bytes, joined in the reader's order, to the front of out: the place is their length. A refusal writes nothing.
@@ -63,11 +60,13 @@ pub fn read_record(writer: &[u8], reader: &[u8], data: &[u8], out: &mut [u8]) ->
     ensures answer { result ≡ (resolved writer.now reader.now «data».now out.old).answer }
     ensures wrote { out.new ≡ (resolved writer.now reader.now «data».now out.old).out }
 {
-    if let Err(refusal) = validate(writer) {
-        return refusal.of(Input::First);
-    }
-    if let Err(refusal) = validate(reader) {
-        return refusal.of(Input::Second);
-    }
-    read_accepted(writer, reader, data, out)
+    let w = match Descriptor::try_from(writer) {
+        Ok(w) => w,
+        Err(refusal) => return refusal.of(Input::First),
+    };
+    let r = match Descriptor::try_from(reader) {
+        Ok(r) => r,
+        Err(refusal) => return refusal.of(Input::Second),
+    };
+    read_accepted(w, r, data, out)
 }

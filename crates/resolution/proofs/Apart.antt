@@ -2,11 +2,11 @@
 -- places are those of the reserved bytes. Rests on the laws of the encoding.
 use mathlib.Core.Path.{◌≡◌, refl, sym, ap, subst, ◌∙◌}
 use mathlib.Core.Bool.{false}
-use mathlib.Core.List.{List, ◌∷◌, ◌++◌}
-use Prim.Native.Nat.{ℕ, ◌+◌, ◌-◌, ◌≤◌, ◌<◌}
+use mathlib.Core.List.{List, [], ◌∷◌, ◌++◌}
+use Prim.Native.Nat.{ℕ, zero, suc, ◌+◌, ◌-◌, ◌≤◌, ◌<◌}
 use native.Mathlib.Omega.{arith}
 use lib.ListN.{length, get_or, take, drop}
-use lib.Seq.{slice}
+use lib.Seq.{slice, get_or-drop}
 use Rattle.descriptor.specs.Limits.{depth_limit}
 use Rattle.descriptor.specs.Header.{reserved_in, size_in}
 use Rattle.descriptor.specs.Tree.{Tree, node, Forest, nil, cons, tree_size, inside_at}
@@ -79,6 +79,16 @@ module _ (d : List ℕ) (p : ℕ) (inner : Inner d p) where
     apart-accepted stop e =
         let part : take (stop - p) (drop p d) ≡ slice p end d = part_slice p stop d ∙ ap (λ (n : ℕ). slice p n d) e in
         subst (λ (x : List ℕ). checked x ≡ read (length x) (type_at d p)) (sym part) accepted
+
+-- the bytes of a part are bytes
+small_front : (n : ℕ) (l : List ℕ) → ((i : ℕ) → get_or l i 0 < 256) → (k : ℕ) → get_or (take n l) k 0 < 256
+small_front zero l bytes k = omega arith
+small_front (suc n) [] bytes k = omega arith
+small_front (suc n) (x ∷ xs) bytes zero = bytes 0
+small_front (suc n) (x ∷ xs) bytes (suc k) = small_front n xs (λ i. bytes (suc i)) k
+
+pub small_part : (d : List ℕ) → ((i : ℕ) → get_or d i 0 < 256) → (p n k : ℕ) → get_or (take n (drop p d)) k 0 < 256
+small_part d bytes p n k = small_front n (drop p d) (λ i. rw get_or-drop (bytes (p + i))) k
 
 -- the comparison of two that are accepted
 pub accepted-compared : (a b : List ℕ) (i j : ℕ) (t u : Tree) → checked a ≡ read i t → checked b ≡ read j u → (comparison a b).equal ≡ same_tree t u

@@ -8,15 +8,16 @@ ghost use Rattle.members.specs.inner.Members.{Inner};
 
 use canonical::compare::same_as_accepted;
 use descriptor::header::size_at;
+use validation::accepted::Descriptor;
 
 // The descriptor at p as one of its own.
 #[tactic(auto, using(crate::proofs::Apart::apart_laws))]
-fn alone(d: &[u8], p: usize) -> &[u8]
+fn alone(d: &[u8], p: usize) -> Descriptor
     requires { Inner d.now p }
-    ensures { checked result.now ≡ read (length result.now) (type_at d.now p) }
+    ensures { checked result.bytes.now ≡ read (length result.bytes.now) (type_at d.now p) }
 {
     let end = p + size_at(d, p);
-    &d[p..end]
+    Descriptor { bytes: &d[p..end] }
 }
 
 // Whether the descriptors at q of r and at p of w are equal, their names too.
@@ -26,5 +27,5 @@ pub fn same_type(r: &[u8], q: usize, w: &[u8], p: usize) -> bool
     requires writer { Inner w.now p }
     ensures { result ≡ same_tree (type_at r.now q) (type_at w.now p) }
 {
-    same_as_accepted(alone(r, q), alone(w, p))
+    same_as_accepted(alone(r, q), alone(w, p).bytes)
 }

@@ -12,7 +12,7 @@ use records::top::walk_top;
 // Whether the data of the record, which under the judged descriptor has this span, is accepted and has the record's identifier.
 pub fn says_at_once(d: Judged, span: Span, r: Blank) -> bool
     requires { d.span ≡ Some span }
-    ensures { result ≡ says r.entry.identifier (identified d.entry.bytes.now r.entry.flattened.now) }
+    ensures { result ≡ says r.entry.identifier (identified d.entry.descriptor.bytes.now r.entry.flattened.now) }
 {
     if r.flattened.len() != span.width {
         return false;
@@ -22,9 +22,9 @@ pub fn says_at_once(d: Judged, span: Span, r: Blank) -> bool
 
 // The same of any data under the judged descriptor, by walking it.
 pub fn says_walked(d: Judged, r: Blank, starts: &mut [u32; 257]) -> bool
-    ensures { result ≡ says r.entry.identifier (identified d.entry.bytes.now r.entry.flattened.now) }
+    ensures { result ≡ says r.entry.identifier (identified d.entry.descriptor.bytes.now r.entry.flattened.now) }
 {
-    if walk_top(d.bytes, r.flattened, starts).is_err() {
+    if walk_top(d.descriptor, r.flattened, starts).is_err() {
         return false;
     }
     be32(r.flattened, starts[d.member] as usize) == r.identifier as usize

@@ -1,6 +1,5 @@
 // The identifier of a record: which member carries it, and what it is.
 ghost use Rattle.std.specs.Prelude.{◌≡◌};
-ghost use Rattle.canonical.specs.inner.Walk.{Accepted};
 ghost use Rattle.store.specs.Book.{identified};
 ghost use Rattle.store.specs.inner.Identity.{told, Carries};
 
@@ -11,20 +10,19 @@ use members::roster::Roster;
 use number::endian::be32;
 use records::top::{is_cluster, walk_top};
 use resolution::picking::pick;
-use validation::validate::validate;
+use validation::accepted::Descriptor;
 
 // The number of the member of an accepted descriptor that the reader's shape asks for: 41, then 42 to 44. In the shape, that member stands
 // at 6.
-pub fn carrier(d: &[u8]) -> Result<usize, Answer>
-    requires { Accepted d.now }
-    ensures { Carries d.now result }
+pub fn carrier(d: Descriptor) -> Result<usize, Answer>
+    ensures { Carries d.entry.bytes.now result }
 {
-    if !is_cluster(d) {
+    if !is_cluster(d.bytes) {
         return Err(Answer::refused(Fault::Writer, Input::First, 0));
     }
     let mut places = [0u16; 256];
     let mut names = [0u16; 256];
-    let roster = Roster::list(d, &mut places, &mut names);
+    let roster = Roster::list(d.bytes, &mut places, &mut names);
     let mut heads = [0u16; 256];
     let mut links = [0u16; 256];
     let chains = Chains::of(roster, &mut heads, &mut links);
@@ -39,13 +37,14 @@ pub fn carrier(d: &[u8]) -> Result<usize, Answer>
 pub fn identify(d: &[u8], x: &[u8]) -> Result<u32, Answer>
     ensures { result ≡ told (identified d.now x.now) }
 {
-    if let Err(refusal) = validate(d) {
-        return Err(refusal.of(Input::First));
-    }
+    let descriptor = match Descriptor::try_from(d) {
+        Ok(descriptor) => descriptor,
+        Err(refusal) => return Err(refusal.of(Input::First)),
+    };
     let mut starts = [0u32; 257];
-    if let Err(refusal) = walk_top(d, x, &mut starts) {
+    if let Err(refusal) = walk_top(descriptor, x, &mut starts) {
         return Err(refusal.of(Input::Data));
     }
-    let member = carrier(d)?;
+    let member = carrier(descriptor)?;
     Ok(be32(x, starts[member] as usize) as u32)
 }

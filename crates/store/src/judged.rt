@@ -5,32 +5,33 @@ ghost use Rattle.store.specs.inner.Judging.{Good, Mute};
 use super::fixed::{Span, span_of};
 use super::identity::carrier;
 use canonical::compare::first_difference;
-use validation::validate::validate;
+use validation::accepted::Descriptor;
 
-// A descriptor that is right: its bytes, which member carries the identifier, and the span of its data, where all of it has one.
+// A descriptor that is right: itself, which member carries the identifier, and the span of its data, where all of it has one.
 #[derive(Clone, Copy)]
 pub struct Judged<'a> {
-    pub bytes: &'a [u8],
+    pub descriptor: Descriptor<'a>,
     pub member: usize,
     pub span: Option<Span>,
-    pub ghost good: { ∥ Good bytes.now member span ∥₁ },
+    pub ghost good: { ∥ Good descriptor.bytes.now member span ∥₁ },
 }
 
 impl Judged<'_> {
     // Whether d has its bytes.
     pub fn is(self, d: &[u8]) -> bool
-        ensures { result ≡ true → self.entry.bytes.now ≡ d.now }
+        ensures { result ≡ true → self.entry.descriptor.bytes.now ≡ d.now }
     {
-        if self.bytes.len() != d.len() {
+        let bytes = self.descriptor.bytes;
+        if bytes.len() != d.len() {
             return false;
         }
-        first_difference(d, self.bytes) == d.len()
+        first_difference(d, bytes) == d.len()
     }
 }
 
 // What was judged, where d has its bytes.
 fn same_again<'a>(d: &[u8], judged: Option<Judged<'a>>) -> Option<Judged<'a>>
-    ensures { IfSome result (λ j. j.bytes.now ≡ d.now) }
+    ensures { IfSome result (λ j. j.descriptor.bytes.now ≡ d.now) }
 {
     let j = judged?;
     if !j.is(d) {
@@ -41,18 +42,18 @@ fn same_again<'a>(d: &[u8], judged: Option<Judged<'a>>) -> Option<Judged<'a>>
 
 // The descriptor d; none where it is not right.
 fn judge_new(d: &[u8]) -> Option<Judged<'_>>
-    ensures { MatchOption result (Mute d.now) (λ j. j.bytes.now ≡ d.now) }
+    ensures { MatchOption result (Mute d.now) (λ j. j.descriptor.bytes.now ≡ d.now) }
 {
-    if validate(d).is_err() {
+    let Ok(descriptor) = Descriptor::try_from(d) else {
         return None;
-    }
-    let Ok(member) = carrier(d) else {
+    };
+    let Ok(member) = carrier(descriptor) else {
         return None;
     };
     Some(Judged {
-        bytes: d,
+        descriptor,
         member,
-        span: span_of(d, member),
+        span: span_of(descriptor, member),
     })
 }
 
@@ -66,7 +67,7 @@ pub struct Recent<'a> {
 impl<'a> Recent<'a> {
     // The descriptor d; none where it is not right.
     pub fn judge(&mut self, d: &'a [u8]) -> Option<Judged<'a>>
-        ensures { MatchOption result (Mute d.now) (λ j. j.bytes.now ≡ d.now) }
+        ensures { MatchOption result (Mute d.now) (λ j. j.descriptor.bytes.now ≡ d.now) }
     {
         if let Some(j) = same_again(d, self.last) {
             return Some(j);

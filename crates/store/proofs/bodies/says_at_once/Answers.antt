@@ -6,16 +6,16 @@ pub returns-then-r-span : goal.returns-then-r-span
 returns-then-r-span c =
     let d = c.args.d in
     let r = c.args.r in
-    once-short d.bytes.now d.member d.span d.good r.flattened.now r.identifier c.args.span c.requires c.if-r-span.true
+    once-short d.descriptor.bytes.now d.member d.span d.good r.flattened.now r.identifier c.args.span c.requires c.if-r-span.true
 
 pub be32-requires : goal.be32-requires
 be32-requires c =
     let d = c.args.d in
     let r = c.args.r in
-    once-room d.bytes.now d.member d.span d.good r.flattened.now r.identifier c.args.span c.requires c.if-r-span.false
+    once-room d.descriptor.bytes.now d.member d.span d.good r.flattened.now r.identifier c.args.span c.requires c.if-r-span.false
 
 pub returns : goal.returns
 returns c =
     let d = c.args.d in
     let r = c.args.r in
-    once-said d.bytes.now d.member d.span d.good r.flattened.now r.identifier c.args.span c.requires c.if-r-span.false _ c.be32.ensures.eq
+    once-said d.descriptor.bytes.now d.member d.span d.good r.flattened.now r.identifier c.args.span c.requires c.if-r-span.false _ c.be32.ensures.eq

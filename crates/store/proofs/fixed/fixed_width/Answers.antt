@@ -1,11 +1,12 @@
 -- `fixed_width` takes the extent of the top. Rests on `Steady`.
 use Rattle.std.proofs.Common.{rules}
+use Rattle.canonical.proofs.Whole.{accepted_of}
 use Rattle.records.proofs.Topmost.{stands}
 use Rattle.store.specs.inner.Steady.{steady_width}
 use Rattle.store.proofs.fixed.fixed_width.Goals as goal
 
 pub extent_of-requires : goal.extent_of-requires
-extent_of-requires c = stands c.args.d.now c.requires
+extent_of-requires c = stands c.args.d.bytes.now (accepted_of _ c.args.d.accepted)
 
 pub returns-in-Fixed-default-default-false : goal.returns-in-Fixed-default-default-false
 unfolding steady_width

@@ -3,4 +3,4 @@ use Rattle.store.proofs.Steady.{SpanLoop}
 use Rattle.store.proofs.fixed.span_of.Given as goal
 
 abbrev pub invariant-loop : goal.invariant-loop
-invariant-loop l = SpanLoop l.d l.p l.place l.counter
+invariant-loop l = SpanLoop l.d.bytes.now l.p l.place l.counter
