@@ -1,7 +1,7 @@
 -- Whole descriptors that were accepted: the walks over them decide equality and give the normal form.
 -- Rests on `Same` and on the laws of the encoding: an accepted descriptor spells one tree.
 use mathlib.Core.Path.{◌≡◌, refl, sym, ap, ◌∙◌}
-use mathlib.Core.Bool.{Bool, true, false}
+use mathlib.Core.Bool.{true, false}
 use mathlib.Core.List.{List, [], ◌++◌, append-nil}
 use Prim.Native.Nat.{ℕ}
 use native.Mathlib.Omega.{arith}

@@ -7,7 +7,7 @@ use native.Mathlib.Omega.{arith}
 use lib.ListN.{length, replicate, replicate-append-replicate}
 use lib.Seq.{slice}
 use Rattle.std.specs.Prelude.{Ok, Err}
-use Rattle.descriptor.specs.Outcome.{Outcome, refused, read, and_then}
+use Rattle.descriptor.specs.Outcome.{refused, read, and_then}
 use Rattle.descriptor.specs.inner.Steps.{refusal_at}
 use Rattle.canonical.specs.Equality.{same_chars}
 use Rattle.canonical.proofs.Same.{chars-same, chars-refl}

@@ -1,8 +1,8 @@
 -- Entries in use, one after the other: what is left to judge from here is what was left from the start. Rests on the laws of bodies and of marks.
 use mathlib.Core.Path.{◌≡◌, refl, sym, ap, ap₂, subst, ◌∙◌}
-use mathlib.Core.Bool.{Bool, true, false, not, ◌&&◌}
+use mathlib.Core.Bool.{Bool, true, false, not}
 use mathlib.Core.List.{List, [], ◌∷◌}
-use Prim.Native.Nat.{ℕ, zero, suc, ◌+◌, ◌-◌, ◌≤◌, ◌<◌}
+use Prim.Native.Nat.{ℕ, suc, ◌+◌, ◌-◌, ◌≤◌, ◌<◌}
 use native.Mathlib.Nat.{sub-zero}
 use native.Mathlib.Numerals.{add-one}
 use native.Mathlib.Omega.{arith}
@@ -17,7 +17,7 @@ use Rattle.store.specs.Layout.{entry_place}
 use Rattle.store.specs.Check.{blank_at, says, is_blank, entry_fits, entry_at, entries_at}
 use Rattle.store.specs.inner.Entries.{name_at, seen_before}
 use Rattle.store.specs.inner.Marks.{mark_count, mark_of, Marked}
-use Rattle.store.specs.inner.Blanks.{blank_of, body_lies, body_fits, Laid}
+use Rattle.store.specs.inner.Blanks.{blank_of, body_lies, Laid}
 use Rattle.store.specs.inner.Judging.{Mute}
 use Rattle.store.specs.inner.Runs.{Left, Ran}
 use Rattle.store.specs.declared.blank.Blank.{Blank as Lent}

@@ -13,7 +13,7 @@ use Rattle.number.specs.Endian.{be}
 use Rattle.number.proofs.Reading.{be-bound}
 use Rattle.descriptor.specs.Encoding.{Bytes}
 use Rattle.descriptor.specs.Outcome.{Outcome, refused, read}
-use Rattle.descriptor.proofs.Outcomes.{Holds, nothing, found as reads, holds_read, holds-require, holds-and_then, Refuses, accepted as fine, refuses-so, refuses-require, refuses-and, refuses-weaken}
+use Rattle.descriptor.proofs.Outcomes.{Holds, nothing, found as reads, holds-require, holds-and_then, Refuses, accepted as fine, refuses-require, refuses-and, refuses-weaken}
 use Rattle.descriptor.proofs.Sizes.{and-true}
 use Rattle.canonical.specs.Equality.{same_chars}
 use Rattle.encoding.proofs.Slices.{bytes-at}

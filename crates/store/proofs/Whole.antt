@@ -7,7 +7,7 @@ use borrow.Author.Tests.{le-leb, lt-leb}
 use lib.ListN.{length}
 use Rattle.std.specs.Prelude.{Ok, Err}
 use Rattle.number.specs.Endian.{be}
-use Rattle.descriptor.specs.Outcome.{Outcome, refused, read}
+use Rattle.descriptor.specs.Outcome.{refused, read}
 use Rattle.descriptor.specs.declared.refusal.Refusal.{Refusal}
 use Rattle.descriptor.proofs.Outcomes.{holds_read}
 use Rattle.resolution.specs.inner.Data.{end_of, passed}

@@ -1,5 +1,5 @@
 -- `says_walked` judges data and reads the identifier in it. Rests on `Judging`.
-use mathlib.Core.Path.{refl, sym, ◌∙◌}
+use mathlib.Core.Path.{refl, sym}
 use native.Mathlib.Omega.{arith}
 use Rattle.store.proofs.Judging.{good-few, walked-lost, walked-room, walked-said}
 use Rattle.store.proofs.bodies.says_walked.Goals as goal

@@ -1,6 +1,5 @@
 -- `carrier` searches for the member that the shape asks for. Rests on `Identified`.
 use mathlib.Core.Path.{sym}
-use native.Mathlib.Omega.{arith}
 use Rattle.members.proofs.Chaining.{fresh-chains}
 use Rattle.canonical.proofs.Whole.{accepted_of}
 use Rattle.records.proofs.Topmost.{top-here, top-members}

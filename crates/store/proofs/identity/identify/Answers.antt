@@ -1,13 +1,9 @@
 -- `identify` judges the record and reads the member that carries the identifier. Rests on `Identified`.
-use mathlib.Core.Path.{◌≡◌, refl, sym, ap, ◌∙◌}
-use Prim.Native.Nat.{ℕ}
+use mathlib.Core.Path.{◌≡◌, refl}
 use native.Mathlib.Omega.{arith}
-use Rattle.number.specs.Endian.{be}
-use Rattle.descriptor.specs.Outcome.{granted}
 use Rattle.canonical.proofs.Judged.{refused_low}
 use Rattle.canonical.proofs.Whole.{accepted_of}
-use Rattle.store.specs.inner.Identity.{told}
-use Rattle.store.proofs.Identified.{descriptor-denied, walk-denied, walked-data, starts-few}
+use Rattle.store.proofs.Identified.{descriptor-denied, walk-denied, starts-few}
 use Rattle.store.proofs.identity.identify.Goals as goal
 
 pub of-requires : goal.of-requires

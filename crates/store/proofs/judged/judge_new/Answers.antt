@@ -1,5 +1,5 @@
 -- `judge_new` judges the bytes of a descriptor. Rests on `Judging`.
-use mathlib.Core.Path.{sym, subst}
+use mathlib.Core.Path.{subst}
 use mathlib.Core.List.{List}
 use Prim.Native.Nat.{ℕ}
 use Rattle.canonical.proofs.Whole.{accepted_of}

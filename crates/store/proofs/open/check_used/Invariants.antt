@@ -1,8 +1,6 @@
 -- `check_used` goes through the entries in use. Rests on `Opening`.
-use mathlib.Core.Path.{◌≡◌}
 use mathlib.Core.List.{[]}
 use Prim.Native.Nat.{◌-◌}
-use lib.ListN.{length}
 use Rattle.store.specs.Check.{entries_at}
 use Rattle.resolution.specs.inner.Data.{end_of}
 use Rattle.store.specs.inner.Runs.{Left}

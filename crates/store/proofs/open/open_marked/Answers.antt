@@ -1,5 +1,5 @@
 -- `open_marked` judges the sizes, the entries in use and the unused ones. Rests on `Whole`.
-use mathlib.Core.Path.{refl, ◌∙◌}
+use mathlib.Core.Path.{refl}
 use native.Mathlib.Omega.{arith}
 use Rattle.std.proofs.lemmas.Result.{err_from_is_err_and}
 use Rattle.store.proofs.Whole.{open-size, open-room, open-bad, open-dirty, open_done}

@@ -1,7 +1,4 @@
 -- `store_find` opens the book and searches its entries. Rests on `Asked`.
-use mathlib.Core.Path.{ap, ◌∙◌}
-use Rattle.descriptor.specs.declared.answer.Answer.{Answer}
-use Rattle.access.specs.Path.{no_part}
 use Rattle.store.proofs.Asked.{asked-place, find-lost, find-none, find-room, find-got}
 use Rattle.store.proofs.questions.store_find.Goals as goal
 

@@ -1,5 +1,5 @@
 -- `Entries::seek` compares one identifier after the other. Rests on `Seeking`.
-use mathlib.Core.Path.{sym, ◌∙◌}
+use mathlib.Core.Path.{◌∙◌}
 use Rattle.store.proofs.Seeking.{unseen-none, unseen_more}
 use Rattle.store.proofs.entry.Entries.seek.Goals as goal
 
