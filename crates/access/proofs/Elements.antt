@@ -4,6 +4,10 @@ use mathlib.Core.Path.{◌≡◌, sym, ap, ◌∙◌}
 use mathlib.Core.Bool.{true}
 use mathlib.Core.List.{List, ◌∷◌}
 use Prim.Native.Nat.{ℕ, zero, ◌^◌, ◌<◌, ◌≤◌, min}
+use Rattle.std.specs.Prelude.{Option, Some, None, Result, Ok, Err}
+use Rattle.descriptor.specs.inner.Steps.{refusal_at}
+use Rattle.descriptor.specs.declared.refusal.Refusal.{Refusal}
+use Rattle.flattened.specs.declared.progress.Walked.{Walked}
 use native.Mathlib.Omega.{arith}
 use borrow.Author.Tests.{lt-ltb, le-ltb}
 use lib.ListN.{length}
@@ -15,11 +19,10 @@ use Rattle.descriptor.proofs.Outcomes.{holds_read}
 use Rattle.flattened.specs.Order.{big}
 use Rattle.flattened.specs.Token.{sizes}
 use Rattle.flattened.specs.Walk.{token, array_at, repeat, walk}
-use Rattle.flattened.specs.inner.Cursor.{cursor}
-use Rattle.flattened.specs.inner.Sizes.{element_cap, capped_sizes}
+use Rattle.flattened.specs.inner.Cursor.{word, cursor}
+use Rattle.flattened.specs.inner.Sizes.{sizes_of, element_cap, capped_sizes}
 use Rattle.flattened.specs.inner.Types.{type_at}
 use Rattle.flattened.specs.declared.cursor.Cursor.{Cursor}
-use Rattle.flattened.specs.declared.sizes.Sizes.TheVariants.{Count, Refused}
 use Rattle.flattened.proofs.Arms.{walk-one}
 use Rattle.flattened.proofs.Capped.{repeat-capped}
 use Rattle.flattened.proofs.Forward.{walk-forward, sizes-end}
@@ -48,15 +51,15 @@ module _ (d : List ℕ) (p dims left : ℕ) (s : List ℕ) (at : ℕ) (lies : Ar
       (then-second front (λ next n. and_then (values_at d p n s next) (λ last ts. read last (token (sizes dims) at next ∷ ts))) elements sized.what sized.eq lies.read)
 
   -- the size words of accepted data are not refused
-  pub sizes-lost : (number place : ℕ) → Refused number place ≡ capped_sizes (array_at big s dims at) → ⊥
+  pub sizes-lost : (number place : ℕ) → Err (refusal_at number place) ≡ capped_sizes (array_at big s dims at) → ⊥
   unfolding capped_sizes
   sizes-lost number place e =
-      let r : Refused number place ≡ Count (min sized.what element_cap) (cursor elements) = e ∙ ap capped_sizes sized.eq in
+      let r : Err (refusal_at number place) ≡ Ok (sizes_of (min sized.what element_cap) (cursor elements)) = e ∙ ap capped_sizes sized.eq in
       let z : ◌≡◌ {A = ℕ} 0 1 = cc in
       omega arith
 
-  module _ (n : ℕ) (c : Cursor) (counted : Count n c ≡ capped_sizes (array_at big s dims at)) where
-    known : Count n c ≡ Count (min sized.what element_cap) (cursor elements)
+  module _ (n : ℕ) (c : Cursor) (counted : Ok (sizes_of n c) ≡ capped_sizes (array_at big s dims at)) where
+    known : Ok (sizes_of n c) ≡ Ok (sizes_of (min sized.what element_cap) (cursor elements))
     unfolding capped_sizes
     known = counted ∙ ap capped_sizes sized.eq
 

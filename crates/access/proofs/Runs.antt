@@ -4,6 +4,10 @@ use mathlib.Core.Path.{◌≡◌, sym, ap, ◌∙◌}
 use mathlib.Core.Bool.{Bool, true}
 use mathlib.Core.List.{List}
 use Prim.Native.Nat.{ℕ, suc, ◌+◌, ◌-◌, ◌*◌, ◌<◌, ◌≤◌}
+use Rattle.std.specs.Prelude.{is_some, Option, Some, None, Result, Ok, Err}
+use Rattle.descriptor.specs.inner.Steps.{refusal_at}
+use Rattle.descriptor.specs.declared.refusal.Refusal.{Refusal}
+use Rattle.flattened.specs.declared.progress.Walked.{Walked}
 use native.Mathlib.Omega.{arith}
 use lib.ListN.{length}
 use Rattle.descriptor.specs.Header.{code_in}
@@ -14,13 +18,12 @@ use Rattle.descriptor.specs.inner.Standing.{is_read, next_of}
 use Rattle.descriptor.proofs.Outcomes.{holds_read}
 use Rattle.flattened.specs.Order.{big}
 use Rattle.flattened.specs.Walk.{follow, repeat, walk}
-use Rattle.flattened.specs.inner.Cursor.{cursor}
-use Rattle.flattened.specs.inner.Extent.{type_rule, judges, extent_of}
-use Rattle.flattened.specs.inner.Progress.{progress}
+use Rattle.flattened.specs.inner.Cursor.{word, cursor}
+use Rattle.flattened.specs.inner.Extent.{type_limit, extent_of}
+use Rattle.flattened.specs.inner.Progress.{walked_to, progress}
 use Rattle.flattened.specs.inner.Types.{type_at, DataAt}
 use Rattle.flattened.specs.declared.cursor.Cursor.{Cursor}
 use Rattle.flattened.specs.declared.extent.Extent.TheVariants.{Fixed, Around}
-use Rattle.flattened.specs.declared.progress.Progress.TheVariants.{Walked, Refused}
 use Rattle.flattened.proofs.Cases.{extent-number}
 use Rattle.flattened.proofs.Extents.{run_ends}
 use Rattle.flattened.proofs.Forward.{walk-forward, repeat-forward}
@@ -61,14 +64,14 @@ module _ (d : List ℕ) (p n : ℕ) (s : List ℕ) (at : ℕ) (values : Values d
 
   -- scalars, each as long as the width of its code
   module _ (w : ℕ) (wide : w ≡ width_of (code_in d p)) (some : w ≡ 0 → ⊥) where
-    scalar-extent : Fixed w 1 (judges (type_rule (type_at d p))) ≡ extent_of (type_at d p)
-    scalar-extent = ap (λ (k : ℕ). Fixed k 1 (judges (type_rule (type_at d p)))) wide ∙ extent-number d p values.type.here (omega arith)
+    scalar-extent : Fixed w 1 (is_some (type_limit (type_at d p))) ≡ extent_of (type_at d p)
+    scalar-extent = ap (λ (k : ℕ). Fixed k 1 (is_some (type_limit (type_at d p)))) wide ∙ extent-number d p values.type.here (omega arith)
 
     pub scalars-inside : at + n * w ≤ data_limit
-    scalars-inside = fixed-inside w 1 (judges (type_rule (type_at d p))) scalar-extent
+    scalars-inside = fixed-inside w 1 (is_some (type_limit (type_at d p))) scalar-extent
 
     pub scalars-past : (r : Cursor) → r ≡ cursor (at + n * w) → r ≡ past_values d p n s at
-    scalars-past = fixed-past w 1 (judges (type_rule (type_at d p))) scalar-extent
+    scalars-past = fixed-past w 1 (is_some (type_limit (type_at d p))) scalar-extent
 
   -- one string in each
   module _ (before after k : ℕ) (j : Bool) (known : Around before after k j ≡ extent_of (type_at d p)) where
@@ -83,11 +86,11 @@ module _ (d : List ℕ) (p n : ℕ) (s : List ℕ) (at : ℕ) (values : Values d
     around-past r e = e ∙ ap cursor (sym around-ends)
 
   -- the walk of them
-  pub walked-past : (c : Cursor) (k : ℕ) → Walked c k ≡ progress (values_at d p n s at) → c ≡ past_values d p n s at
+  pub walked-past : (c : Cursor) (k : ℕ) → Ok (walked_to c k) ≡ progress (values_at d p n s at) → c ≡ past_values d p n s at
   unfolding past_values
   walked-past c k e = let r = progress-reads (values_at d p n s at) c k e in ap cursor (sym (next-is r.eq))
 
-  pub walked-lost : (number place : ℕ) → Refused number place ≡ progress (values_at d p n s at) → ⊥
+  pub walked-lost : (number place : ℕ) → Err (refusal_at number place) ≡ progress (values_at d p n s at) → ⊥
   walked-lost number place e =
       let r : values_at d p n s at ≡ refused number place = progress-refused (values_at d p n s at) number place e in
       let z : read (next_of (values_at d p n s at)) got.what ≡ refused number place = sym got.eq ∙ r in

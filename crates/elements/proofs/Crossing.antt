@@ -2,13 +2,15 @@
 use mathlib.Core.Path.{◌≡◌, ap}
 use mathlib.Core.List.{List}
 use Prim.Native.Nat.{ℕ, ◌+◌}
+use Rattle.std.specs.Prelude.{Option, Some, None, Result, Ok, Err}
+use Rattle.descriptor.specs.inner.Steps.{refusal_at}
+use Rattle.descriptor.specs.declared.refusal.Refusal.{Refusal}
+use Rattle.flattened.specs.declared.progress.Walked.{Walked}
 use native.Mathlib.Omega.{arith}
 use Rattle.flattened.specs.Order.{Order, number_at}
-use Rattle.flattened.specs.inner.Cursor.{skipped}
+use Rattle.flattened.specs.inner.Cursor.{word, skipped}
 use Rattle.flattened.specs.inner.Columns.{ArrivesAt, Across}
 use Rattle.flattened.specs.declared.cursor.Cursor.{Cursor}
-use Rattle.flattened.specs.declared.cursor.Skip.{Skip}
-use Rattle.flattened.specs.declared.cursor.Skip.TheVariants.{To, Cut}
 use Rattle.flattened.proofs.Steps.{Skipped, skip-to, WordRead}
 
 -- the bytes before a string, its length word, its characters and the bytes after it, each from where the one before it ended

@@ -18,10 +18,9 @@ use Rattle.descriptor.proofs.Standing.{row-none}
 use Rattle.descriptor.proofs.Steps.{impossible}
 use Rattle.flattened.specs.Order.{Order, number_at}
 use Rattle.flattened.specs.inner.Types.{type_at, types_at, RowStands, fields_kind}
-use Rattle.flattened.specs.inner.Extent.{rule_of, type_rule, judges, keeps, joint, least, tokens_in, extent_fields, extent_of, extent_all}
+use Rattle.flattened.specs.inner.Extent.{limit_of, type_limit, keeps, joint, least, tokens_in, extent_fields, extent_of, extent_all}
 use Rattle.flattened.specs.inner.Columns.{Definite, judged_in, Ahead, beyond, place_of, KeptFields, Kept, KeptAll, EachBelow, EachKept, EachKeptAll, EachKeptHere}
-use Rattle.flattened.specs.declared.extent.Rule.{Rule}
-use Rattle.flattened.specs.declared.extent.Rule.TheVariants.{Any, Below}
+use Rattle.std.specs.Prelude.{is_some, Option, Some, None}
 use Rattle.flattened.specs.declared.extent.Extent.{Extent}
 use Rattle.flattened.specs.declared.extent.Extent.TheVariants.{Varies, Fixed, Around}
 use Rattle.flattened.proofs.Codes.{is_measured}
@@ -36,10 +35,10 @@ neither true b e = (cc, cc)
 neither false b e = (refl, e)
 
 -- a rule that judges nothing keeps every number
-keeps-any : (r : Rule) → judges r ≡ false → (v : ℕ) → keeps r v ≡ true
-unfolding judges keeps
-keeps-any Any e v = refl
-keeps-any (Below limit) e v = cc
+keeps-any : (r : Option ℕ) → is_some r ≡ false → (v : ℕ) → keeps r v ≡ true
+unfolding keeps
+keeps-any None e v = refl
+keeps-any (Some limit) e v = cc
 
 -- where nothing is judged in two extents, nothing is in either
 neither-judged : (x y : Extent) → judged_in (joint x y) ≡ false → (judged_in x ≡ false) × (judged_in y ≡ false)
@@ -58,9 +57,9 @@ module _ (o : Order) (s : List ℕ) where
 
     -- a type in which nothing is judged
     pub calm-kept : (t : Tree) → judged_in (extent_of t) ≡ false → (at : ℕ) → Kept o s t at
-    calm-kept (node c empty f m) e at = keeps-any (rule_of empty) e _
-    calm-kept (node c (items xs) f m) e at = keeps-any (rule_of (items xs)) e _
-    calm-kept (node c (pairs ps) f m) e at = keeps-any (rule_of (pairs ps)) e _
+    calm-kept (node c empty f m) e at = keeps-any (limit_of empty) e _
+    calm-kept (node c (items xs) f m) e at = keeps-any (limit_of (items xs)) e _
+    calm-kept (node c (pairs ps) f m) e at = keeps-any (limit_of (pairs ps)) e _
     calm-kept (node c text f m) e at = tt
     calm-kept (node c (dimensions k) f m) e at = tt
     calm-kept (node c (members k) f m) e at = calm-all f e at
@@ -107,7 +106,7 @@ ahead-joint (Around u v n i) (Around c e m j) p size h b t = record { bytes = om
 module _ (o : Order) (s : List ℕ) (at : ℕ) where
   -- a scalar whose number keeps its rule, a compound whose parts do, and any other type
   scalar-kept : (c : ℕ) (b : Fields) (f : Forest) (m : Name) → is_measured (fields_kind b) ≡ true
-      → keeps (rule_of b) (number_at o s at (width_of c)) ≡ true → Kept o s (node c b f m) at
+      → keeps (limit_of b) (number_at o s at (width_of c)) ≡ true → Kept o s (node c b f m) at
   unfolding is_measured fields_kind Kept KeptFields
   scalar-kept c empty f m e h = h
   scalar-kept c (items xs) f m e h = h
@@ -139,13 +138,13 @@ module _ (o : Order) (s : List ℕ) (at : ℕ) where
 
   -- the type that stands at p, by its code
   module _ (d : List ℕ) (p : ℕ) (here : Stands d p) where
-    pub kept-number : 0 < width_of (code_in d p) → keeps (type_rule (type_at d p)) (number_at o s at (width_of (code_in d p))) ≡ true → Kept o s (type_at d p) at
+    pub kept-number : 0 < width_of (code_in d p) → keeps (type_limit (type_at d p)) (number_at o s at (width_of (code_in d p))) ≡ true → Kept o s (type_at d p) at
     kept-number some h =
         let made = it d p here in
-        let ruling : keeps (rule_of made.fields) (number_at o s at (width_of (code_in d p))) ≡ true =
-        subst (λ (r : Rule). keeps r (number_at o s at (width_of (code_in d p))) ≡ true) (ruled d p here) h in
-        let own : keeps (rule_of made.fields) (number_at o s at (width_of made.code)) ≡ true =
-        subst (λ (c : ℕ). keeps (rule_of made.fields) (number_at o s at (width_of c)) ≡ true) (sym made.coded) ruling in
+        let ruling : keeps (limit_of made.fields) (number_at o s at (width_of (code_in d p))) ≡ true =
+        subst (λ (r : Option ℕ). keeps r (number_at o s at (width_of (code_in d p))) ≡ true) (ruled d p here) h in
+        let own : keeps (limit_of made.fields) (number_at o s at (width_of made.code)) ≡ true =
+        subst (λ (c : ℕ). keeps (limit_of made.fields) (number_at o s at (width_of c)) ≡ true) (sym made.coded) ruling in
         subst (λ (t : Tree). Kept o s t at) (sym made.tree)
         (scalar-kept made.code made.fields made.inner made.name (is-measured d p here some) own)
 
@@ -174,20 +173,20 @@ module _ (d : List ℕ) (p : ℕ) (here : Stands d p) (i : Inside) (read : i ≡
 
 -- a scalar in each of n elements, by its rule
 module _ (o : Order) (s : List ℕ) (front whole : Extent) (at n : ℕ) (d : List ℕ) (p : ℕ) (here : Stands d p) (some : 0 < width_of (code_in d p)) where
-  pub each-any : Any ≡ type_rule (type_at d p) → EachKept o s (type_at d p) front whole at n
+  pub each-any : None ≡ type_limit (type_at d p) → EachKept o s (type_at d p) front whole at n
   unfolding keeps
   each-any e i l =
       kept-number o s _ d p here some
-      (sym (ap (λ (r : Rule). keeps r (number_at o s (beyond o s front (place_of o s whole at i)) (width_of (code_in d p)))) e))
+      (sym (ap (λ (r : Option ℕ). keeps r (number_at o s (beyond o s front (place_of o s whole at i)) (width_of (code_in d p)))) e))
 
-  pub each_below : (limit w : ℕ) → Below limit ≡ type_rule (type_at d p) → w ≡ width_of (code_in d p)
+  pub each_below : (limit w : ℕ) → Some limit ≡ type_limit (type_at d p) → w ≡ width_of (code_in d p)
       → EachBelow o s front whole at w limit n → EachKept o s (type_at d p) front whole at n
   unfolding keeps
   each_below limit w e wide low i l =
       let place = beyond o s front (place_of o s whole at i) in
       let fits : number_at o s place (width_of (code_in d p)) < limit = subst (λ (v : ℕ). number_at o s place v < limit) wide (low i l) in
       kept-number o s place d p here some
-      (sym (ap (λ (r : Rule). keeps r (number_at o s place (width_of (code_in d p)))) e) ∙ lt-ltb _ limit fits)
+      (sym (ap (λ (r : Option ℕ). keeps r (number_at o s place (width_of (code_in d p)))) e) ∙ lt-ltb _ limit fits)
 
 -- what the loop over the types of a row keeps: where those that are left are kept, all are
 module _ (d : List ℕ) (k start left : ℕ) (before : Extent) (o : Order) (s : List ℕ) (whole : Extent) (at n : ℕ) where

@@ -3,6 +3,7 @@ use mathlib.Core.Path.{◌≡◌, refl, ap}
 use mathlib.Core.Bool.{true}
 use mathlib.Core.List.{List}
 use Prim.Native.Nat.{ℕ}
+use Rattle.std.specs.Prelude.{is_some, Some, None}
 use native.Mathlib.Omega.{arith}
 use Rattle.descriptor.specs.Codes.{Kind, enumeration, string, array}
 use Rattle.descriptor.specs.Tree.{Name, Fields, empty, items, pairs, text, dimensions, members, subtype, Tree, node, Forest, nil, cons, count_of}
@@ -11,10 +12,9 @@ use Rattle.descriptor.specs.inner.Steps.{is_compound}
 use Rattle.descriptor.proofs.Steps.{impossible}
 use Rattle.flattened.specs.Order.{Order}
 use Rattle.flattened.specs.Walk.{text_at, walk_fields, walk, walk_all}
-use Rattle.flattened.specs.inner.Extent.{is_scalar, rule_of, judges, extent_fields, extent_of, extent_all}
+use Rattle.flattened.specs.inner.Extent.{is_scalar, limit_of, extent_fields, extent_of, extent_all}
 use Rattle.flattened.specs.inner.Arrays.{elements_at}
 use Rattle.flattened.specs.inner.Types.{fields_kind}
-use Rattle.flattened.specs.declared.extent.Rule.TheVariants.{Any, Below}
 use Rattle.flattened.specs.declared.extent.Extent.TheVariants.{Fixed}
 use Rattle.flattened.proofs.Codes.{is_measured}
 use Rattle.flattened.proofs.Judged.{ruled_at, scalar-ruled}
@@ -55,7 +55,7 @@ is-dimensions subtype e = cc
 module _ (c : ℕ) (b : Fields) (f : Forest) (m : Name) where
   module _ (o : Order) (s : List ℕ) (at : ℕ) where
     -- the walk
-    pub walk-scalar : is_measured (fields_kind b) ≡ true → walk o (node c b f m) s at ≡ ruled_at o c s at (rule_of b)
+    pub walk-scalar : is_measured (fields_kind b) ≡ true → walk o (node c b f m) s at ≡ ruled_at o c s at (limit_of b)
     unfolding walk
     walk-scalar e = scalar-ruled o c s at b (λ p. walk_all o f s p) (measured-scalar b e)
 
@@ -81,11 +81,11 @@ module _ (c : ℕ) (b : Fields) (f : Forest) (m : Name) where
         go subtype e = refl
 
   -- the extent
-  pub extent-scalar : is_measured (fields_kind b) ≡ true → extent_of (node c b f m) ≡ Fixed (width_of c) 1 (judges (rule_of b))
+  pub extent-scalar : is_measured (fields_kind b) ≡ true → extent_of (node c b f m) ≡ Fixed (width_of c) 1 (is_some (limit_of b))
   unfolding extent_of extent_fields is_measured fields_kind
   extent-scalar e = go b e
     where
-      go : (b : Fields) → is_measured (fields_kind b) ≡ true → extent_fields c b (extent_all f) ≡ Fixed (width_of c) 1 (judges (rule_of b))
+      go : (b : Fields) → is_measured (fields_kind b) ≡ true → extent_fields c b (extent_all f) ≡ Fixed (width_of c) 1 (is_some (limit_of b))
       go empty e = refl
       go (items xs) e = refl
       go (pairs ps) e = refl
@@ -108,8 +108,8 @@ module _ (c : ℕ) (b : Fields) (f : Forest) (m : Name) where
       go subtype e = refl
 
 -- the rule
-pub rule-enumeration : (b : Fields) → fields_kind b ≡ enumeration → rule_of b ≡ Below (count_of b)
-unfolding fields_kind rule_of count_of
+pub rule-enumeration : (b : Fields) → fields_kind b ≡ enumeration → limit_of b ≡ Some (count_of b)
+unfolding fields_kind limit_of count_of
 rule-enumeration empty e = cc
 rule-enumeration (items xs) e = refl
 rule-enumeration (pairs ps) e = cc
@@ -118,8 +118,8 @@ rule-enumeration (dimensions k) e = cc
 rule-enumeration (members k) e = cc
 rule-enumeration subtype e = cc
 
-pub rule-other : (b : Fields) → (fields_kind b ≡ enumeration → ⊥) → rule_of b ≡ Any
-unfolding fields_kind rule_of
+pub rule-other : (b : Fields) → (fields_kind b ≡ enumeration → ⊥) → limit_of b ≡ None
+unfolding fields_kind limit_of
 rule-other empty h = refl
 rule-other (items xs) h = absurd (h refl)
 rule-other (pairs ps) h = refl
@@ -129,8 +129,8 @@ rule-other (members k) h = refl
 rule-other subtype h = refl
 
 -- only an enumeration has a rule
-pub below-kind : (k : Kind) (b : Fields) (limit : ℕ) → fields_kind b ≡ k → Below limit ≡ rule_of b → enumeration ≡ k
-unfolding fields_kind rule_of
+pub below-kind : (k : Kind) (b : Fields) (limit : ℕ) → fields_kind b ≡ k → Some limit ≡ limit_of b → enumeration ≡ k
+unfolding fields_kind limit_of
 below-kind k empty limit h e = absurd (let z : ◌≡◌ {A = ℕ} 0 1 = cc in omega arith)
 below-kind k (items xs) limit h e = h
 below-kind k (pairs ps) limit h e = absurd (let z : ◌≡◌ {A = ℕ} 0 1 = cc in omega arith)

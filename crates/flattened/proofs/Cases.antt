@@ -16,9 +16,8 @@ use Rattle.flattened.specs.Order.{Order}
 use Rattle.flattened.specs.Walk.{walk}
 use Rattle.flattened.specs.inner.Order.{Narrow}
 use Rattle.flattened.specs.inner.Types.{type_at, types_at, TypeStands, RowStands, fields_kind}
-use Rattle.flattened.specs.inner.Extent.{rule_of, type_rule, judges, extent_fields, extent_of, extent_all}
-use Rattle.flattened.specs.declared.extent.Rule.{Rule}
-use Rattle.flattened.specs.declared.extent.Rule.TheVariants.{Any, Below}
+use Rattle.flattened.specs.inner.Extent.{limit_of, type_limit, extent_fields, extent_of, extent_all}
+use Rattle.std.specs.Prelude.{is_some, Option, Some, None}
 use Rattle.flattened.specs.declared.extent.Extent.TheVariants.{Varies, Fixed, Around}
 use Rattle.flattened.proofs.Codes.{is_measured, some-width, no-width, enumeration-narrow}
 use Rattle.flattened.proofs.Judged.{ruled_at}
@@ -98,17 +97,17 @@ module _ (d : List ℕ) (p : ℕ) (here : Stands d p) where
   it = type-made d p here
 
   -- the rule of the fields, by the code that was read
-  pub ruled : type_rule (type_at d p) ≡ rule_of it.fields
-  unfolding type_rule
-  ruled = ap type_rule it.tree
+  pub ruled : type_limit (type_at d p) ≡ limit_of it.fields
+  unfolding type_limit
+  ruled = ap type_limit it.tree
 
-  pub rule-items : enumeration ≡ kind_of (code_in d p) → (i : Inside) → i ≡ inside_of d p → Below i.count ≡ type_rule (type_at d p)
+  pub rule-items : enumeration ≡ kind_of (code_in d p) → (i : Inside) → i ≡ inside_of d p → Some i.count ≡ type_limit (type_at d p)
   rule-items k i e =
-      ap (λ (x : Inside). Below x.count) (e ∙ it.inside)
+      ap (λ (x : Inside). Some x.count) (e ∙ it.inside)
       ∙ sym (rule-enumeration it.fields (it.kind ∙ sym k))
       ∙ sym ruled
 
-  pub rule-any : (enumeration ≡ kind_of (code_in d p) → ⊥) → Any ≡ type_rule (type_at d p)
+  pub rule-any : (enumeration ≡ kind_of (code_in d p) → ⊥) → None ≡ type_limit (type_at d p)
   rule-any other = sym (ruled ∙ rule-other it.fields (λ e. other (sym e ∙ it.kind)))
 
   -- a code that has a width is a scalar's
@@ -119,23 +118,23 @@ module _ (d : List ℕ) (p : ℕ) (here : Stands d p) where
       go true e = ap is_measured it.kind ∙ e
       go false e = absurd (omega (arith, no-width (code_in d p) e))
 
-  pub extent-number : 0 < width_of (code_in d p) → Fixed (width_of (code_in d p)) 1 (judges (type_rule (type_at d p))) ≡ extent_of (type_at d p)
+  pub extent-number : 0 < width_of (code_in d p) → Fixed (width_of (code_in d p)) 1 (is_some (type_limit (type_at d p))) ≡ extent_of (type_at d p)
   extent-number h =
-      ap (λ (r : Rule). Fixed (width_of (code_in d p)) 1 (judges r)) ruled
-      ∙ ap (λ (c : ℕ). Fixed (width_of c) 1 (judges (rule_of it.fields))) (sym it.coded)
+      ap (λ (r : Option ℕ). Fixed (width_of (code_in d p)) 1 (is_some r)) ruled
+      ∙ ap (λ (c : ℕ). Fixed (width_of c) 1 (is_some (limit_of it.fields))) (sym it.coded)
       ∙ sym (ap extent_of it.tree ∙ extent-scalar it.code it.fields it.inner it.name (is-measured h))
 
   -- the walk of a scalar, by its rule
   pub walk-number : 0 < width_of (code_in d p) → (o : Order) (s : List ℕ) (at : ℕ)
-      → walk o (type_at d p) s at ≡ ruled_at o (code_in d p) s at (type_rule (type_at d p))
+      → walk o (type_at d p) s at ≡ ruled_at o (code_in d p) s at (type_limit (type_at d p))
   walk-number h o s at =
       ap (λ (t : Tree). walk o t s at) it.tree
       ∙ walk-scalar it.code it.fields it.inner it.name o s at (is-measured h)
-      ∙ ap (λ (c : ℕ). ruled_at o c s at (rule_of it.fields)) it.coded
-      ∙ ap (λ (r : Rule). ruled_at o (code_in d p) s at r) (sym ruled)
+      ∙ ap (λ (c : ℕ). ruled_at o c s at (limit_of it.fields)) it.coded
+      ∙ ap (λ (r : Option ℕ). ruled_at o (code_in d p) s at r) (sym ruled)
 
   -- a type that has a rule is of one, two or four bytes
-  pub rule-narrow : (limit : ℕ) → Below limit ≡ type_rule (type_at d p) → Narrow (width_of (code_in d p))
+  pub rule-narrow : (limit : ℕ) → Some limit ≡ type_limit (type_at d p) → Narrow (width_of (code_in d p))
   rule-narrow limit rule = enumeration-narrow (code_in d p) (sym (below-kind (kind_of (code_in d p)) it.fields limit it.kind (rule ∙ ruled)))
 
   -- a code without a width is none's

@@ -19,7 +19,7 @@ use Rattle.flattened.specs.Order.{Order, number_at}
 use Rattle.flattened.specs.Token.{string, Token}
 use Rattle.flattened.specs.Walk.{token, scalar_at, text_at, follow, repeat, walk_fields, walk, walk_all}
 use Rattle.flattened.specs.inner.Progress.{Reads}
-use Rattle.flattened.specs.inner.Extent.{is_scalar, rule_of, keeps, joint, extent_fields, extent_of, extent_all}
+use Rattle.flattened.specs.inner.Extent.{is_scalar, limit_of, keeps, joint, extent_fields, extent_of, extent_all}
 use Rattle.flattened.specs.inner.Columns.{beyond, KeptFields, Kept, KeptAll}
 use Rattle.flattened.specs.declared.extent.Extent.{Extent}
 use Rattle.flattened.specs.declared.extent.Extent.TheVariants.{Varies, Fixed, Around}
@@ -155,15 +155,15 @@ module _ (s : List ℕ) where
 
   -- a scalar
   scalar-extends : (o : Order) (c : ℕ) (b : Fields) (inside : ℕ → Outcome (List Token)) (at : ℕ) → is_scalar b ≡ true
-      → Takes s (width_of c) 1 (keeps (rule_of b) (number_at o s at (width_of c)) ≡ true) at (walk_fields o c b inside s at)
+      → Takes s (width_of c) 1 (keeps (limit_of b) (number_at o s at (width_of c)) ≡ true) at (walk_fields o c b inside s at)
   unfolding scalar_at
   scalar-extends o c b inside at e =
       let ruled = scalar-ruled o c s at b inside e in
       rw ruled (record {
-        ends = judged (keeps (rule_of b) (number_at o s at (width_of c)));
+        ends = judged (keeps (limit_of b) (number_at o s at (width_of c)));
         reads = λ kept room. record {
           tokens = _;
-          eq = ruled-read o c s at (rule_of b) room kept;
+          eq = ruled-read o c s at (limit_of b) room kept;
           count = refl;
         };
       })

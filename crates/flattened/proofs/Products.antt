@@ -4,6 +4,8 @@ use mathlib.Core.Path.{◌≡◌, refl, sym, ap, ap₂, ◌∙◌}
 use mathlib.Core.Bool.{true, false}
 use mathlib.Core.List.{List, ◌∷◌}
 use Prim.Native.Nat.{ℕ, zero, suc, ◌+◌, ◌-◌, ◌*◌, ◌<◌, ◌≤◌, min}
+use Rattle.std.specs.Prelude.{Ok, Err}
+use Rattle.descriptor.specs.inner.Steps.{refusal_at}
 use native.Mathlib.Nat.{sub-zero, mul-zero, mul-suc, mul_assoc, mul-one, one-mul, min-eq_left, min-eq_right}
 use native.Mathlib.Decide.{dec_le}
 use native.Mathlib.Omega.{arith}
@@ -13,9 +15,8 @@ use Rattle.descriptor.specs.Limits.{length_limit}
 use Rattle.flattened.specs.Order.{Order, number_at}
 use Rattle.flattened.specs.Walk.{sizes_at, sizes_fit, product, array_at}
 use Rattle.flattened.specs.inner.Cursor.{cursor}
-use Rattle.flattened.specs.inner.Sizes.{element_cap, capped_sizes}
+use Rattle.flattened.specs.inner.Sizes.{sizes_of, element_cap, capped_sizes}
 use Rattle.flattened.specs.declared.cursor.Cursor.{Cursor}
-use Rattle.flattened.specs.declared.sizes.Sizes.TheVariants.{Count, Refused}
 
 -- a product of a number that was cut, cut again, is that of the number
 cap-mul : (a b : ℕ) → min (min a element_cap * b) element_cap ≡ min (a * b) element_cap
@@ -81,7 +82,7 @@ module _ (o : Order) (s : List ℕ) (dims at : ℕ) where
           rest = product (sizes_at o s (dims - (i + 1)) (at + 4 * (i + 1)))
 
       -- it is not
-      pub sizes-over : at + 4 * dims ≤ length s → length_limit ≤ number_at o s (at + 4 * i) 4 → Refused 22 at ≡ capped_sizes (array_at o s dims at)
+      pub sizes-over : at + 4 * dims ≤ length s → length_limit ≤ number_at o s (at + 4 * i) 4 → Err (refusal_at 22 at) ≡ capped_sizes (array_at o s dims at)
       unfolding array_at capped_sizes sizes_fit size
       sizes-over room high =
           let over : sizes_fit (sizes_at o s dims at) ≡ false =
@@ -89,7 +90,7 @@ module _ (o : Order) (s : List ℕ) (dims at : ℕ) where
           simp (le-leb (at + 4 * dims) (length s) room, over)
 
     -- no size is left
-    pub sizes-done : at + 4 * dims ≤ length s → dims ≤ i → (c : Cursor) → c ≡ cursor (at + 4 * dims) → Count n c ≡ capped_sizes (array_at o s dims at)
+    pub sizes-done : at + 4 * dims ≤ length s → dims ≤ i → (c : Cursor) → c ≡ cursor (at + 4 * dims) → Ok (sizes_of n c) ≡ capped_sizes (array_at o s dims at)
     unfolding array_at capped_sizes sizes_fit sizes_at product
     sizes-done room h c e =
         let none : dims - i ≡ 0 = omega arith in
@@ -99,9 +100,9 @@ module _ (o : Order) (s : List ℕ) (dims at : ℕ) where
         ∙ ap (λ (k : ℕ). min (n * product (sizes_at o s k (at + 4 * i))) element_cap) none
         ∙ ap (λ (k : ℕ). min k element_cap) (mul-one n)
         ∙ min-eq_left loop.small in
-        ap₂ (λ (k : ℕ) (x : Cursor). Count k x) (sym all) e ∙ simp (le-leb (at + 4 * dims) (length s) room, fits)
+        ap₂ (λ (k : ℕ) (x : Cursor). Ok (sizes_of k x)) (sym all) e ∙ simp (le-leb (at + 4 * dims) (length s) room, fits)
 
   -- a size word is missing
-  pub sizes-cut : length s < at + 4 * dims → Refused 21 at ≡ capped_sizes (array_at o s dims at)
+  pub sizes-cut : length s < at + 4 * dims → Err (refusal_at 21 at) ≡ capped_sizes (array_at o s dims at)
   unfolding array_at capped_sizes
   sizes-cut h = simp (lt-leb (at + 4 * dims) (length s) h)

@@ -3,6 +3,8 @@
 use mathlib.Core.Path.{◌≡◌, ap, ◌∙◌}
 use mathlib.Core.List.{List}
 use Prim.Native.Nat.{ℕ, ◌+◌, ◌<◌, ◌≤◌}
+use Rattle.std.specs.Prelude.{Ok, Err}
+use Rattle.descriptor.specs.inner.Steps.{refusal_at}
 use native.Mathlib.Omega.{arith}
 use borrow.Author.Tests.{le-leb, lt-leb, lt-ltb, le-ltb}
 use lib.ListN.{length}
@@ -10,24 +12,23 @@ use Rattle.descriptor.specs.Limits.{length_limit}
 use Rattle.flattened.specs.Order.{Order, number_at}
 use Rattle.flattened.specs.Walk.{text_at}
 use Rattle.flattened.specs.inner.Cursor.{cursor}
-use Rattle.flattened.specs.inner.Progress.{progress}
+use Rattle.flattened.specs.inner.Progress.{walked_to, progress}
 use Rattle.flattened.specs.declared.cursor.Cursor.{Cursor}
-use Rattle.flattened.specs.declared.progress.Progress.TheVariants.{Walked, Refused}
 use Rattle.flattened.proofs.Steps.{Skipped, WordRead}
 
 module _ (o : Order) (s : List ℕ) (at : ℕ) where
   -- no length word
-  pub text-none : length s < at + 4 → Refused 21 at ≡ progress (text_at o s at)
+  pub text-none : length s < at + 4 → Err (refusal_at 21 at) ≡ progress (text_at o s at)
   unfolding text_at progress
   text-none h = simp (lt-leb (at + 4) (length s) h)
 
   module _ (v : ℕ) (c : Cursor) (word : WordRead o s at v c) where
-    pub text-long : length_limit ≤ v → Refused 22 at ≡ progress (text_at o s at)
+    pub text-long : length_limit ≤ v → Err (refusal_at 22 at) ≡ progress (text_at o s at)
     unfolding text_at progress
     text-long high = simp (le-leb (at + 4) (length s) word.fits, le-ltb (number_at o s at 4) length_limit (omega (arith, word.value)))
 
     module _ (low : v < length_limit) where
-      pub text-cut : length s < c.at + v → Refused 21 at ≡ progress (text_at o s at)
+      pub text-cut : length s < c.at + v → Err (refusal_at 21 at) ≡ progress (text_at o s at)
       unfolding text_at progress
       text-cut h =
           simp (
@@ -36,11 +37,11 @@ module _ (o : Order) (s : List ℕ) (at : ℕ) where
             lt-leb (at + 4 + number_at o s at 4) (length s) (omega (arith, word.value, word.place)),
           )
 
-      pub text-whole : (end : Cursor) → Skipped s c.at v end → Walked end 1 ≡ progress (text_at o s at)
+      pub text-whole : (end : Cursor) → Skipped s c.at v end → Ok (walked_to end 1) ≡ progress (text_at o s at)
       unfolding text_at progress
       text-whole end skip =
           let there : c.at + v ≡ at + 4 + number_at o s at 4 = omega (arith, word.value, word.place) in
-          ap (λ (x : Cursor). Walked x 1) (skip.next ∙ ap (λ (p : ℕ). cursor p) there)
+          ap (λ (x : Cursor). Ok (walked_to x 1)) (skip.next ∙ ap (λ (p : ℕ). cursor p) there)
           ∙ simp (
             le-leb (at + 4) (length s) word.fits,
             lt-ltb (number_at o s at 4) length_limit (omega (arith, word.value)),

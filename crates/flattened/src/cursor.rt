@@ -7,23 +7,16 @@ ghost use Rattle.flattened.specs.inner.Cursor.{cursor, skipped, word_at};
 use super::order::{Order, number_4};
 
 // Where the next token starts: "Each piece starts exactly where the one before it ended".
-#[derive(Clone, Copy)]
+#[derive(Clone, Copy, Debug, PartialEq, Eq)]
 pub struct Cursor {
     pub at: usize,
 }
 
-// The cursor past some bytes; or the data ends before.
-#[derive(Clone, Copy)]
-pub enum Skip {
-    To(Cursor),
-    Cut,
-}
-
-// A word and the cursor past it; or the data ends before.
-#[derive(Clone, Copy)]
-pub enum Word {
-    Read(usize, Cursor),
-    Cut,
+// A word, and the cursor past it.
+#[derive(Clone, Copy, Debug, PartialEq, Eq)]
+pub struct Word {
+    pub number: usize,
+    pub next: Cursor,
 }
 
 impl Cursor {
@@ -43,25 +36,26 @@ impl Cursor {
         number_4(s, self.at, o) as usize
     }
 
-    // Past n bytes, where they are there.
-    pub fn skip(self, s: &[u8], n: usize) -> Skip
+    // Past n bytes; none where the data ends before.
+    pub fn skip(self, s: &[u8], n: usize) -> Option<Cursor>
         requires { self.at ≤ length s.now }
         ensures { result ≡ skipped s.now self.at n }
     {
         if s.len() - self.at < n {
-            return Skip::Cut;
+            return None;
         }
-        Skip::To(self.past(n))
+        Some(self.past(n))
     }
 
-    // The four bytes here as a number, where they are there.
-    pub fn word(self, s: &[u8], o: Order) -> Word
+    // The four bytes here as a number; none where the data ends before.
+    pub fn word(self, s: &[u8], o: Order) -> Option<Word>
         requires { self.at ≤ length s.now }
         ensures { result ≡ word_at (order_of o) s.now self.at }
     {
-        let Skip::To(next) = self.skip(s, 4) else {
-            return Word::Cut;
-        };
-        Word::Read(self.number(s, o), next)
+        let next = self.skip(s, 4)?;
+        Some(Word {
+            number: self.number(s, o),
+            next,
+        })
     }
 }

@@ -2,7 +2,7 @@
 ghost use Rattle.std.specs.Prelude.{◌≡◌, ◌||◌, ◌+◌, ◌^◌, ◌<◌};
 ghost use Rattle.descriptor.specs.inner.Standing.{Stands};
 ghost use Rattle.flattened.specs.inner.Types.{type_at, types_at, TypeStands, RowStands};
-ghost use Rattle.flattened.specs.inner.Extent.{type_rule, judges, joint, least, tokens_in, extent_of, extent_all};
+ghost use Rattle.flattened.specs.inner.Extent.{type_limit, joint, least, tokens_in, extent_of, extent_all};
 ghost use Rattle.flattened.specs.declared.extent.Extent.TheVariants.{Fixed, Around};
 
 use descriptor::codes::{Kind, is_compound, is_enumeration, kind_of};
@@ -10,49 +10,24 @@ use descriptor::header::{code_at, size_at};
 use descriptor::inside::inside_of;
 use descriptor::width::width;
 
-// Each number is below a limit, else refused; or any will do.
-#[derive(Clone, Copy)]
-pub enum Rule {
-    Any,
-    Below(usize),
-}
-
-// The rule of the type at p.
-pub fn rule_of(d: &[u8], p: usize) -> Rule
+// The limit that the numbers of the type at p are below, else refused; none where any will do.
+pub fn limit_of(d: &[u8], p: usize) -> Option<usize>
     requires { Stands d.now p }
-    ensures { result ≡ type_rule (type_at d.now p) }
+    ensures { result ≡ type_limit (type_at d.now p) }
 {
     if !is_enumeration(code_at(d, p)) {
-        return Rule::Any;
+        return None;
     }
-    let inside = inside_of(d, p);
-    Rule::Below(inside.count)
+    Some(inside_of(d, p).count)
 }
 
 // Bytes and tokens, and whether any number among them is judged; or the bytes before and after one string, the tokens, and whether any
 // number is judged. A type with an array or two strings inside varies.
-#[derive(Clone, Copy)]
+#[derive(Clone, Copy, Debug, PartialEq, Eq)]
 pub enum Extent {
     Varies,
     Fixed(usize, usize, bool),
     Around(usize, usize, usize, bool),
-}
-
-// Whether either holds.
-fn either(a: bool, b: bool) -> bool
-    ensures { result ≡ a || b }
-{
-    if a { true } else { b }
-}
-
-// Whether a rule refuses any number.
-fn judges(r: Rule) -> bool
-    ensures { result ≡ judges r }
-{
-    match r {
-        Rule::Any => false,
-        Rule::Below(limit) => true,
-    }
 }
 
 // Bytes and tokens and then others.
@@ -62,10 +37,8 @@ fn fixed_joint(w: usize, k: usize, j: bool, next: Extent) -> Extent
 {
     match next {
         Extent::Varies => Extent::Varies,
-        Extent::Fixed(v, n, i) => Extent::Fixed(w + v, k + n, either(j, i)),
-        Extent::Around(before, after, n, i) => {
-            Extent::Around(w + before, after, k + n, either(j, i))
-        }
+        Extent::Fixed(v, n, i) => Extent::Fixed(w + v, k + n, j | i),
+        Extent::Around(before, after, n, i) => { Extent::Around(w + before, after, k + n, j | i) }
     }
 }
 
@@ -76,7 +49,7 @@ fn around_joint(before: usize, after: usize, k: usize, j: bool, next: Extent) ->
 {
     match next {
         Extent::Varies => Extent::Varies,
-        Extent::Fixed(v, n, i) => Extent::Around(before, after + v, k + n, either(j, i)),
+        Extent::Fixed(v, n, i) => Extent::Around(before, after + v, k + n, j | i),
         Extent::Around(b, a, n, i) => Extent::Varies,
     }
 }
@@ -102,7 +75,7 @@ pub fn extent_of(d: &[u8], p: usize, left: usize) -> Extent
     let code = code_at(d, p);
     let w = width(code);
     if w != 0 {
-        return Extent::Fixed(w, 1, judges(rule_of(d, p)));
+        return Extent::Fixed(w, 1, limit_of(d, p).is_some());
     }
     let k = kind_of(code);
     if let Kind::Text = k {
@@ -123,11 +96,9 @@ fn extent_row(d: &[u8], start: usize, k: usize, left: usize) -> Extent
 {
     let mut p = start;
     let mut extent = Extent::Fixed(0, 0, false);
-    let mut i = 0;
-    while i < k {
+    for _ in 0..k {
         extent = joint(extent, extent_of(d, p, left));
         p += size_at(d, p);
-        i += 1;
     }
     extent
 }

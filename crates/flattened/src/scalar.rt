@@ -8,30 +8,34 @@ ghost use Rattle.flattened.specs.inner.Order.{order_of};
 ghost use Rattle.flattened.specs.inner.Progress.{progress};
 ghost use Rattle.flattened.specs.inner.Types.{type_at};
 
-use super::cursor::{Cursor, Skip};
-use super::extent::{Rule, rule_of};
+use super::cursor::Cursor;
+use super::extent::limit_of;
 use super::order::{Order, narrow_number};
-use super::progress::Progress;
+use super::progress::Walked;
+use descriptor::refusal::{Fault, Refusal};
 
 // The value of the type at p, which takes w bytes.
-pub fn scalar(d: &[u8], p: usize, w: usize, s: &[u8], from: Cursor, o: Order) -> Progress
+pub fn scalar(
+    d: &[u8],
+    p: usize,
+    w: usize,
+    s: &[u8],
+    from: Cursor,
+    o: Order,
+) -> Result<Walked, Refusal>
     requires stands { Stands d.now p }
     requires w_value { (w ≡ width_of (code_in d.now p)) × (0 < w) }
     requires at_in_bounds { from.at ≤ length s.now }
     ensures { result ≡ progress (walk (order_of o) (type_at d.now p) s.now from.at) }
 {
     let at = from.at;
-    let Skip::To(next) = from.skip(s, w) else {
-        return Progress::Refused(21, at);
+    let Some(next) = from.skip(s, w) else {
+        return Err(Fault::DataEnd.at(at));
     };
-    let rule = rule_of(d, p);
-    match rule {
-        Rule::Any => Progress::Walked(next, 1),
-        Rule::Below(limit) => {
-            if limit <= narrow_number(s, at, w, o) {
-                return Progress::Refused(23, at);
-            }
-            Progress::Walked(next, 1)
+    if let Some(limit) = limit_of(d, p) {
+        if limit <= narrow_number(s, at, w, o) {
+            return Err(Fault::Enumeration.at(at));
         }
     }
+    Ok(Walked { next, tokens: 1 })
 }

@@ -5,15 +5,16 @@ ghost use Rattle.flattened.specs.Walk.{array_at};
 ghost use Rattle.flattened.specs.inner.Order.{order_of};
 ghost use Rattle.flattened.specs.inner.Sizes.{element_cap, capped_sizes};
 
-use super::cursor::{Cursor, Skip};
+use super::cursor::Cursor;
 use super::limits::{ELEMENT_CAP, LENGTH_LIMIT};
 use super::order::{Order, number_4};
+use descriptor::refusal::{Fault, Refusal};
 
-// The number of elements, cut at `ELEMENT_CAP`, and the cursor past the size words; or a refusal's number and place.
-#[derive(Clone, Copy)]
-pub enum Sizes {
-    Count(usize, Cursor),
-    Refused(u32, usize),
+// The number of elements, cut at `ELEMENT_CAP`, and the cursor past the size words, where the first of them starts.
+#[derive(Clone, Copy, Debug, PartialEq, Eq)]
+pub struct Sizes {
+    pub count: usize,
+    pub elements: Cursor,
 }
 
 // a times b, cut at `ELEMENT_CAP`: the product of four sizes does not fit 64 bits.
@@ -21,32 +22,25 @@ fn capped(a: usize, b: usize) -> usize
     requires { (a ≤ element_cap) × (b < length_limit) }
     ensures { result ≡ min (a * b) element_cap }
 {
-    let product = a * b;
-    if product < ELEMENT_CAP {
-        product
-    } else {
-        ELEMENT_CAP
-    }
+    (a * b).min(ELEMENT_CAP)
 }
 
 // The size words of `dims` dimensions. All of them are there before any is judged.
-pub fn size_words(s: &[u8], from: Cursor, dims: usize, o: Order) -> Sizes
+pub fn size_words(s: &[u8], from: Cursor, dims: usize, o: Order) -> Result<Sizes, Refusal>
     requires { (dims ≤ dimension_limit) × (from.at ≤ length s.now) }
     ensures { result ≡ capped_sizes (array_at (order_of o) s.now dims from.at) }
 {
     let at = from.at;
-    let Skip::To(next) = from.skip(s, 4 * dims) else {
-        return Sizes::Refused(21, at);
+    let Some(elements) = from.skip(s, 4 * dims) else {
+        return Err(Fault::DataEnd.at(at));
     };
-    let mut n = 1;
-    let mut i = 0;
-    while i < dims {
+    let mut count = 1;
+    for i in 0..dims {
         let size = number_4(s, at + 4 * i, o) as usize;
         if LENGTH_LIMIT <= size {
-            return Sizes::Refused(22, at);
+            return Err(Fault::Length.at(at));
         }
-        n = capped(n, size);
-        i += 1;
+        count = capped(count, size);
     }
-    Sizes::Count(n, next)
+    Ok(Sizes { count, elements })
 }

@@ -18,7 +18,7 @@ use Rattle.descriptor.proofs.Steps.{impossible}
 use Rattle.flattened.specs.Answers.{data_check}
 use Rattle.flattened.specs.Order.{big}
 use Rattle.flattened.specs.Walk.{walk}
-use Rattle.flattened.specs.inner.Extent.{type_rule}
+use Rattle.flattened.specs.inner.Extent.{type_limit}
 use Rattle.flattened.specs.inner.Types.{type_at}
 use Rattle.flattened.specs.declared.cursor.Cursor.{Cursor}
 use Rattle.flattened.proofs.Cases.{walk-number}
@@ -54,7 +54,7 @@ module _ (d : List ℕ) (p : ℕ) (s : List ℕ) (at : ℕ) (lies : Lies d p dep
     where
       room : 0 < width_of (code_in d p) → Dec (length s < at + width_of (code_in d p)) → at + width_of (code_in d p) ≤ length s
       room h (yes l) =
-          let cut : walk big (type_at d p) s at ≡ refused 21 at = walk-number d p lies.type.here h big s at ∙ ruled-cut big (code_in d p) s at (type_rule (type_at d p)) l in
+          let cut : walk big (type_at d p) s at ≡ refused 21 at = walk-number d p lies.type.here h big s at ∙ ruled-cut big (code_in d p) s at (type_limit (type_at d p)) l in
           impossible (sym (ap is_read cut) ∙ lies.read)
       room h (no l) = omega arith
 

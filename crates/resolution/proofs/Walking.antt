@@ -2,6 +2,10 @@
 use mathlib.Core.Path.{◌≡◌, refl, sym, ap, subst, ◌∙◌}
 use mathlib.Core.List.{List, ◌++◌}
 use Prim.Native.Nat.{ℕ, ◌+◌, ◌-◌, ◌≤◌, ◌<◌}
+use Rattle.std.specs.Prelude.{Option, Some, None, Result, Ok, Err}
+use Rattle.descriptor.specs.inner.Steps.{refusal_at}
+use Rattle.descriptor.specs.declared.refusal.Refusal.{Refusal}
+use Rattle.flattened.specs.declared.progress.Walked.{Walked}
 use native.Mathlib.Nat.{sub-zero}
 use native.Mathlib.Numerals.{add-one}
 use native.Mathlib.Omega.{arith}
@@ -18,10 +22,9 @@ use Rattle.descriptor.proofs.Steps.{impossible}
 use Rattle.flattened.specs.Order.{big}
 use Rattle.flattened.specs.Token.{Token}
 use Rattle.flattened.specs.Walk.{follow, walk, walk_all}
-use Rattle.flattened.specs.inner.Progress.{progress}
+use Rattle.flattened.specs.inner.Progress.{walked_to, progress}
 use Rattle.flattened.specs.inner.Types.{type_at, types_at, TypeStands, DataAt}
 use Rattle.flattened.specs.declared.cursor.Cursor.{Cursor}
-use Rattle.flattened.specs.declared.progress.Progress.TheVariants.{Walked, Refused}
 use Rattle.flattened.proofs.Forward.{walk-forward}
 use Rattle.flattened.proofs.Progresses.{progress-reads, progress-refused}
 use Rattle.flattened.proofs.Types.{type-solid}
@@ -87,14 +90,14 @@ module _ (d : List ℕ) (k start : ℕ) (s : List ℕ) (all : Members d k start)
           ∙ (λ j. walk_step (walk_all big (cons (type_at d (sym l.place j)) (types_at d (k - (i + 1)) (place_from d start (i + 1)))) s at))
 
       -- is refused
-      pub walk-lost : (number place : ℕ) → Refused number place ≡ progress (walk big (type_at d p) s at)
+      pub walk-lost : (number place : ℕ) → Err (refusal_at number place) ≡ progress (walk big (type_at d p) s at)
           → refused_step number place ≡ walk_step (walk_all big (types_at d k start) s 0)
       walk-lost number place e =
           let one = progress-refused (walk big (type_at d p) s at) number place e in
           sym (split ∙ ap (λ (o : Outcome (List Token)). walk_step (follow o (λ a. walk_all big (types_at d (k - (i + 1)) (place_from d start (i + 1))) s a))) one)
 
       -- or is walked
-      pub walk-again : (c : Cursor) (tokens : ℕ) → Walked c tokens ≡ progress (walk big (type_at d p) s at)
+      pub walk-again : (c : Cursor) (tokens : ℕ) → Ok (walked_to c tokens) ≡ progress (walk big (type_at d p) s at)
           → (q : ℕ) → q ≡ p + size_in d p → i < 257 → WalkLoop d k start s (set starts i at) q c.at (i + 1)
       unfolding next_of
       walk-again c tokens e q there room =

@@ -4,6 +4,10 @@ use mathlib.Core.Path.{◌≡◌, refl, sym, ap, subst, ◌∙◌}
 use mathlib.Core.Bool.{true}
 use mathlib.Core.List.{List, ◌∷◌}
 use Prim.Native.Nat.{ℕ, suc, ◌+◌, ◌-◌, ◌*◌, ◌<◌, ◌≤◌, min}
+use Rattle.std.specs.Prelude.{Option, Some, None, Result, Ok, Err}
+use Rattle.descriptor.specs.inner.Steps.{refusal_at}
+use Rattle.descriptor.specs.declared.refusal.Refusal.{Refusal}
+use Rattle.flattened.specs.declared.progress.Walked.{Walked}
 use native.Mathlib.Nat.{sub-zero}
 use native.Mathlib.Omega.{arith}
 use lib.ListN.{length}
@@ -20,11 +24,10 @@ use Rattle.flattened.specs.Order.{Order}
 use Rattle.flattened.specs.Token.{Token, sizes}
 use Rattle.flattened.specs.Walk.{token, single, array_at, follow, repeat, walk, walk_all}
 use Rattle.flattened.specs.inner.Arrays.{elements_at}
-use Rattle.flattened.specs.inner.Cursor.{cursor}
-use Rattle.flattened.specs.inner.Sizes.{element_cap, capped_sizes}
+use Rattle.flattened.specs.inner.Cursor.{word, cursor}
+use Rattle.flattened.specs.inner.Sizes.{sizes_of, element_cap, capped_sizes}
 use Rattle.flattened.specs.inner.Types.{type_at, types_at, RowStands, Solid}
 use Rattle.flattened.specs.declared.cursor.Cursor.{Cursor}
-use Rattle.flattened.specs.declared.sizes.Sizes.TheVariants.{Count, Refused}
 use Rattle.flattened.proofs.Capped.{repeat-capped}
 use Rattle.flattened.proofs.Cases.{walk-number}
 use Rattle.flattened.proofs.Forward.{walk-forward, sizes-end}
@@ -96,30 +99,30 @@ pub record SizesRead (o : Order) (s : List ℕ) (k at n : ℕ) : Type 0 where
   pub eq : array_at o s k at ≡ read (at + 4 * k) many
   pub capped : n ≡ min many element_cap
 
-pub sizes-read : (o : Order) (s : List ℕ) (k at n : ℕ) (c : Cursor) → Count n c ≡ capped_sizes (array_at o s k at) → SizesRead o s k at n
+pub sizes-read : (o : Order) (s : List ℕ) (k at n : ℕ) (c : Cursor) → Ok (sizes_of n c) ≡ capped_sizes (array_at o s k at) → SizesRead o s k at n
 unfolding capped_sizes
 sizes-read o s k at n c e = go (array_at o s k at) refl (sizes-end s o k at) e
   where
-    go : (a : Outcome ℕ) → array_at o s k at ≡ a → Holds (λ q m. (q ≡ at + 4 * k) × (q ≤ length s)) a → Count n c ≡ capped_sizes a → SizesRead o s k at n
+    go : (a : Outcome ℕ) → array_at o s k at ≡ a → Holds (λ q m. (q ≡ at + 4 * k) × (q ≤ length s)) a → Ok (sizes_of n c) ≡ capped_sizes a → SizesRead o s k at n
     go (refused number place) h held e = absurd (let z : ◌≡◌ {A = ℕ} 0 1 = cc in omega arith)
     go (read next m) h held e =
         let ends = holds_read refl held in
         record { fits = omega (arith, ends.0, ends.1); many = m; eq = h ∙ ap (λ (q : ℕ). read q m) ends.0; capped = cc }
 
 -- where they are turned
-pub sizes-done : (o : Order) (s : List ℕ) (k at n : ℕ) (c : Cursor) (before after : List ℕ) → Count n c ≡ capped_sizes (array_at o s k at)
+pub sizes-done : (o : Order) (s : List ℕ) (k at n : ℕ) (c : Cursor) (before after : List ℕ) → Ok (sizes_of n c) ≡ capped_sizes (array_at o s k at)
     → after ≡ turned_run 4 s k at before → SizesTurned o k s at before after n
 unfolding capped_sizes
 sizes-done o s k at n c before after e bytes =
     let r = sizes-read o s k at n c e in
-    record { sized = (λ i. Count (r.capped i) (cursor (at + 4 * k))) ∙ sym (ap capped_sizes r.eq); bytes = bytes }
+    record { sized = (λ i. Ok (sizes_of (r.capped i) (cursor (at + 4 * k)))) ∙ sym (ap capped_sizes r.eq); bytes = bytes }
 
 -- they are never refused where an array is read
-pub sizes-refused : (o : Order) (s : List ℕ) (k at number place : ℕ) → is_read (array_at o s k at) ≡ true → Refused number place ≡ capped_sizes (array_at o s k at) → ⊥
+pub sizes-refused : (o : Order) (s : List ℕ) (k at number place : ℕ) → is_read (array_at o s k at) ≡ true → Err (refusal_at number place) ≡ capped_sizes (array_at o s k at) → ⊥
 unfolding is_read capped_sizes
 sizes-refused o s k at number place e r = go (array_at o s k at) e r
   where
-    go : (a : Outcome ℕ) → is_read a ≡ true → Refused number place ≡ capped_sizes a → ⊥
+    go : (a : Outcome ℕ) → is_read a ≡ true → Err (refusal_at number place) ≡ capped_sizes a → ⊥
     go (refused m q) e r = impossible e
     go (read next m) e r = let z : ◌≡◌ {A = ℕ} 0 1 = cc in omega arith
 

@@ -3,6 +3,10 @@ use mathlib.Core.Path.{◌≡◌, refl, sym, ap, subst, ◌∙◌}
 use mathlib.Core.Bool.{Bool}
 use mathlib.Core.List.{List, []}
 use Prim.Native.Nat.{ℕ, ◌+◌, ◌-◌, ◌*◌, ◌<◌, ◌≤◌}
+use Rattle.std.specs.Prelude.{Option, Some, None, Result, Ok, Err}
+use Rattle.descriptor.specs.inner.Steps.{refusal_at}
+use Rattle.descriptor.specs.declared.refusal.Refusal.{Refusal}
+use Rattle.flattened.specs.declared.progress.Walked.{Walked}
 use native.Mathlib.Nat.{add-mul}
 use native.Mathlib.Numerals.{add-one}
 use native.Mathlib.Omega.{arith}
@@ -11,11 +15,10 @@ use Rattle.descriptor.specs.Limits.{data_limit}
 use Rattle.descriptor.specs.Tree.{Tree}
 use Rattle.flattened.specs.Order.{Order}
 use Rattle.flattened.specs.Walk.{repeat, walk}
-use Rattle.flattened.specs.inner.Progress.{Reads}
+use Rattle.flattened.specs.inner.Progress.{walked_to, Reads}
 use Rattle.flattened.specs.inner.Extent.{extent_of}
 use Rattle.flattened.specs.inner.Columns.{beyond, place_of, ArrivesAt, Across, Kept, EachKeptHere}
 use Rattle.flattened.specs.declared.cursor.Cursor.{Cursor}
-use Rattle.flattened.specs.declared.cursor.Skip.TheVariants.{To}
 use Rattle.flattened.specs.declared.extent.Extent.TheVariants.{Around}
 use Rattle.flattened.proofs.Extents.{walk-crosses}
 use Rattle.flattened.proofs.Repeats.{reads_at, repeat-more}

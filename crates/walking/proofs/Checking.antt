@@ -3,6 +3,10 @@
 use mathlib.Core.Path.{◌≡◌, refl, sym, ap, ◌∙◌}
 use mathlib.Core.List.{List}
 use Prim.Native.Nat.{ℕ, ◌<◌, ◌≤◌}
+use Rattle.std.specs.Prelude.{Option, Some, None, Result, Ok, Err}
+use Rattle.descriptor.specs.inner.Steps.{refusal_at}
+use Rattle.descriptor.specs.declared.refusal.Refusal.{Refusal}
+use Rattle.flattened.specs.declared.progress.Walked.{Walked}
 use native.Mathlib.Omega.{arith}
 use borrow.Author.Tests.{le-leb, lt-leb, eq-eqb, ne_eqb}
 use lib.ListN.{length}
@@ -17,11 +21,9 @@ use Rattle.flattened.specs.Order.{Order, big}
 use Rattle.flattened.specs.Walk.{walk, walked}
 use Rattle.flattened.specs.Answers.{data_check}
 use Rattle.flattened.specs.inner.Checks.{ordered_check}
-use Rattle.flattened.specs.inner.Progress.{progress}
+use Rattle.flattened.specs.inner.Progress.{walked_to, progress}
 use Rattle.flattened.specs.inner.Types.{type_of, type_at, TypeStands}
 use Rattle.flattened.specs.declared.cursor.Cursor.{Cursor}
-use Rattle.flattened.specs.declared.progress.Progress.{Progress}
-use Rattle.flattened.specs.declared.progress.Progress.TheVariants.{Walked, Refused}
 use Rattle.flattened.proofs.Progresses.{progress-reads, progress-refused}
 use Rattle.flattened.proofs.Refusals.{walk-place}
 use Rattle.flattened.proofs.Repeats.{repeat-one}
@@ -50,13 +52,13 @@ module _ (o : Order) (d s : List ℕ) (q : ℕ) (t : Tree) (known : checked d �
   unfolding ordered_check walked
   check-long h = sym (rw known (simp (lt-leb (length s) data_limit h)))
 
-  module _ (short : length s ≤ data_limit) (r : Progress) (is : r ≡ progress (walk o (type_at d 0) s 0)) where
+  module _ (short : length s ≤ data_limit) (r : Result Walked Refusal) (is : r ≡ progress (walk o (type_at d 0) s 0)) where
     -- what the walk of one value came to
     whole : r ≡ progress (walk o t s 0)
     whole = is ∙ ap (λ (x : Tree). progress (walk o x s 0)) top
 
     -- a refusal
-    module _ (number place : ℕ) (e : r ≡ Refused number place) where
+    module _ (number place : ℕ) (e : r ≡ Err (refusal_at number place)) where
       stopped : walk o t s 0 ≡ refused number place
       stopped = progress-refused (walk o t s 0) number place (sym e ∙ whole)
 
@@ -68,7 +70,7 @@ module _ (o : Order) (d s : List ℕ) (q : ℕ) (t : Tree) (known : checked d �
       check-stopped = sym (rw known (simp (le-leb (length s) data_limit short, stopped)))
 
     -- a reading
-    module _ (c : Cursor) (tokens : ℕ) (e : r ≡ Walked c tokens) where
+    module _ (c : Cursor) (tokens : ℕ) (e : r ≡ Ok (walked_to c tokens)) where
       pub check-ahead : Ahead s 0 tokens c.at
       check-ahead = values-ahead d 0 depth_limit top-stands o s 1 0 (omega arith) c tokens (sym e ∙ is ∙ ap progress (sym (repeat-one (λ a. walk o (type_at d 0) s a) 0)))
 

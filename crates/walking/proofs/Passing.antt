@@ -5,6 +5,10 @@ use mathlib.Core.Bool.{Bool}
 use mathlib.Core.List.{List, [], ◌∷◌}
 use mathlib.Core.Logic.{⊎_elim}
 use Prim.Native.Nat.{ℕ, suc, ◌+◌, ◌-◌, ◌*◌, ◌/◌, ◌<◌, ◌≤◌, min}
+use Rattle.std.specs.Prelude.{Option, Some, None, Result, Ok, Err}
+use Rattle.descriptor.specs.inner.Steps.{refusal_at}
+use Rattle.descriptor.specs.declared.refusal.Refusal.{Refusal}
+use Rattle.flattened.specs.declared.progress.Walked.{Walked}
 use native.Mathlib.Nat.{add-zero, mul-le-mul_right, div-mul-le_self, div-lt_iff_lt-mul}
 use native.Mathlib.Decide.{dec_lt}
 use native.Mathlib.Omega.{arith}
@@ -20,10 +24,10 @@ use Rattle.descriptor.proofs.Outcomes.{Holds, holds_read}
 use Rattle.flattened.specs.Order.{Order, number_at}
 use Rattle.flattened.specs.Token.{Token, sizes}
 use Rattle.flattened.specs.Walk.{token, array_at, repeat, walk}
-use Rattle.flattened.specs.inner.Cursor.{cursor}
-use Rattle.flattened.specs.inner.Progress.{progress, plus, Reads}
-use Rattle.flattened.specs.inner.Sizes.{element_cap, capped_sizes}
-use Rattle.flattened.specs.inner.Extent.{keeps, type_rule, extent_of}
+use Rattle.flattened.specs.inner.Cursor.{word, cursor}
+use Rattle.flattened.specs.inner.Progress.{walked_to, progress, plus, Reads}
+use Rattle.flattened.specs.inner.Sizes.{sizes_of, element_cap, capped_sizes}
+use Rattle.flattened.specs.inner.Extent.{keeps, type_limit, extent_of}
 use Rattle.flattened.specs.inner.Types.{type_at, Solid}
 use Rattle.flattened.specs.inner.Columns.{Kept, EachKeptHere}
 use Rattle.flattened.specs.inner.Arrays.{elements_at, EachKeeps}
@@ -33,10 +37,6 @@ use Rattle.walking.specs.declared.arrays.Front.TheVariants.{Over, Rest}
 use Rattle.walking.specs.declared.arrays.Passed.{Passed}
 use Rattle.flattened.specs.declared.cursor.Cursor.{Cursor}
 use Rattle.flattened.specs.declared.extent.Extent.TheVariants.{Fixed}
-use Rattle.flattened.specs.declared.extent.Rule.{Rule}
-use Rattle.flattened.specs.declared.extent.Rule.TheVariants.{Any, Below}
-use Rattle.flattened.specs.declared.progress.Progress.TheVariants.{Walked, Refused}
-use Rattle.flattened.specs.declared.sizes.Sizes.TheVariants as counted
 use Rattle.flattened.proofs.Capped.{repeat-capped}
 use Rattle.flattened.proofs.Cases.{walk-number}
 use Rattle.flattened.proofs.Extents.{run-reads}
@@ -98,7 +98,7 @@ pub pass-more : (o : Order) (t : Tree) (s : List ℕ) (m n at : ℕ) (r : Passed
 pass-more o t s m n at r h passes = record { most = omega (arith, passes.most); reads = passes.reads }
 
 -- n scalars whose numbers each keep their rule, one step for all; each is walked by f, under the rule
-judged-run : (o : Order) (s : List ℕ) (c : ℕ) (r : Rule) (f : ℕ → Outcome (List Token)) → ((a : ℕ) → f a ≡ ruled_at o c s a r)
+judged-run : (o : Order) (s : List ℕ) (c : ℕ) (r : Option ℕ) (f : ℕ → Outcome (List Token)) → ((a : ℕ) → f a ≡ ruled_at o c s a r)
     → (n at : ℕ) → at + n * width_of c ≤ length s → EachKeeps r o s (width_of c) at n → Reads (repeat f n at) (at + n * width_of c) (n * 1)
 judged-run o s c r f ruled n at room kept =
     repeat-run f (width_of c) 1 n at (λ i h.
@@ -107,13 +107,13 @@ judged-run o s c r f ruled n at room kept =
     record { tokens = _; eq = ruled place ∙ ruled-read o c s place r end (kept i h); count = refl })
 
 -- numbers side by side that keep any rule, or are each below its limit
-pub any-kept : (r : Rule) (o : Order) (s : List ℕ) (w at n : ℕ) → Any ≡ r → EachKeeps r o s w at n
+pub any-kept : (r : Option ℕ) (o : Order) (s : List ℕ) (w at n : ℕ) → None ≡ r → EachKeeps r o s w at n
 unfolding keeps
-any-kept r o s w at n e i h = sym (ap (λ (x : Rule). keeps x (number_at o s (at + i * w) w)) e)
+any-kept r o s w at n e i h = sym (ap (λ (x : Option ℕ). keeps x (number_at o s (at + i * w) w)) e)
 
-pub low-kept : (r : Rule) (o : Order) (s : List ℕ) (w at n limit : ℕ) → Below limit ≡ r → EachLow limit o s w w at n → EachKeeps r o s w at n
+pub low-kept : (r : Option ℕ) (o : Order) (s : List ℕ) (w at n limit : ℕ) → Some limit ≡ r → EachLow limit o s w w at n → EachKeeps r o s w at n
 unfolding keeps
-low-kept r o s w at n limit e low i h = sym (ap (λ (x : Rule). keeps x (number_at o s (at + i * w) w)) e) ∙ lt-ltb _ limit (low i h)
+low-kept r o s w at n limit e low i h = sym (ap (λ (x : Option ℕ). keeps x (number_at o s (at + i * w) w)) e) ∙ lt-ltb _ limit (low i h)
 
 -- the bytes and tokens of elements that are passed
 pub record PassedWithin (s : List ℕ) (at : ℕ) (r : Passed) : Type 0 where
@@ -140,15 +140,15 @@ pass-next o t s n m at a b r first room next e =
 
 -- scalars that each keep their rule
 pub pass_kept : (d : List ℕ) (p : ℕ) → Stands d p → (w : ℕ) → w ≡ width_of (code_in d p) → 0 < w → (o : Order) (s : List ℕ) (m n at : ℕ) → m ≤ n
-    → at + m * w ≤ length s → EachKeeps (type_rule (type_at d p)) o s w at m
+    → at + m * w ≤ length s → EachKeeps (type_limit (type_at d p)) o s w at m
     → Passes o (type_at d p) s n at (record { count = m; bytes = m * w; tokens = m })
 pass_kept d p here w wide some o s m n at most room kept =
     let fits : 0 < width_of (code_in d p) = omega arith in
     let one : m * 1 ≡ m = omega arith in
     let same : at + m * width_of (code_in d p) ≡ at + m * w = ap (λ (x : ℕ). at + m * x) (sym wide) in
-    let each : EachKeeps (type_rule (type_at d p)) o s (width_of (code_in d p)) at m =
-    subst (λ (x : ℕ). EachKeeps (type_rule (type_at d p)) o s x at m) wide kept in
-    let run = judged-run o s (code_in d p) (type_rule (type_at d p)) (λ a. walk o (type_at d p) s a) (λ a. walk-number d p here fits o s a) m at
+    let each : EachKeeps (type_limit (type_at d p)) o s (width_of (code_in d p)) at m =
+    subst (λ (x : ℕ). EachKeeps (type_limit (type_at d p)) o s x at m) wide kept in
+    let run = judged-run o s (code_in d p) (type_limit (type_at d p)) (λ a. walk o (type_at d p) s a) (λ a. walk-number d p here fits o s a) m at
     (omega arith) each in
     record { most = most; reads = reads_at run same one }
 
@@ -158,18 +158,18 @@ module _ (o : Order) (k : ℕ) (t : Tree) (s : List ℕ) (at : ℕ) where
   element a = walk o t s a
 
   -- a size word is missing or too large
-  pub front-refused : (number place : ℕ) → counted.Refused number place ≡ capped_sizes (array_at o s k at) → FrontMet o k t s at (Over (Refused number place))
+  pub front-refused : (number place : ℕ) → counted.Err (refusal_at number place) ≡ capped_sizes (array_at o s k at) → FrontMet o k t s at (Over (Err (refusal_at number place)))
   unfolding capped_sizes resumed Resumable progress
   front-refused number place e = go (array_at o s k at) refl e
     where
-      go : (a : Outcome ℕ) → array_at o s k at ≡ a → counted.Refused number place ≡ capped_sizes a → FrontMet o k t s at (Over (Refused number place))
+      go : (a : Outcome ℕ) → array_at o s k at ≡ a → counted.Err (refusal_at number place) ≡ capped_sizes a → FrontMet o k t s at (Over (Err (refusal_at number place)))
       go (refused m q) h e =
           let same : m ≡ number = cc in
           let there : q ≡ place = cc in
-          record { eq = rw h (λ i. Refused (same i) (there i)); within = tt }
+          record { eq = rw h (λ i. Err (refusal_at (same i) (there i))); within = tt }
       go (read next n) h e = absurd (let z : ◌≡◌ {A = ℕ} 0 1 = cc in omega arith)
 
-  module _ (solid : Solid t) (short : length s ≤ data_limit) (n : ℕ) (c : Cursor) (sized : counted.Count n c ≡ capped_sizes (array_at o s k at)) where
+  module _ (solid : Solid t) (short : length s ≤ data_limit) (n : ℕ) (c : Cursor) (sized : counted.Ok (sizes_of n c) ≡ capped_sizes (array_at o s k at)) where
     -- the size words are there
     pub record Sized : Type 0 where
       pub place : c.at ≡ at + 4 * k
@@ -182,9 +182,9 @@ module _ (o : Order) (k : ℕ) (t : Tree) (s : List ℕ) (at : ℕ) where
       where
         one_more : (next : ℕ) (u : Outcome (List Token)) → progress (and_then u (λ last ts. read last (token (sizes k) at next ∷ ts))) ≡ plus 1 (progress u)
         one_more next (refused number place) = refl
-        one_more next (read last ts) = ap (λ (j : ℕ). Walked (cursor last) j) (let e : suc (length ts) ≡ 1 + length ts = omega arith in e)
+        one_more next (read last ts) = ap (λ (j : ℕ). Ok (walked_to (cursor last) j)) (let e : suc (length ts) ≡ 1 + length ts = omega arith in e)
 
-        go : (a : Outcome ℕ) → array_at o s k at ≡ a → Holds (λ q m. (q ≡ at + 4 * k) × (q ≤ length s)) a → counted.Count n c ≡ capped_sizes a → Sized
+        go : (a : Outcome ℕ) → array_at o s k at ≡ a → Holds (λ q m. (q ≡ at + 4 * k) × (q ≤ length s)) a → counted.Ok (sizes_of n c) ≡ capped_sizes a → Sized
         go (refused number place) h held e = absurd (let z : ◌≡◌ {A = ℕ} 0 1 = cc in omega arith)
         go (read next m) h held e =
             let there : c ≡ cursor next = cc in
@@ -220,7 +220,7 @@ module _ (o : Order) (k : ℕ) (t : Tree) (s : List ℕ) (at : ℕ) where
       total = front-sized.whole ∙ ap (plus 1) rest ∙ plus-plus 1 r.tokens _
 
       -- every element was passed
-      front-over : r.count ≡ n → FrontMet o k t s at (Over (Walked (cursor (c.at + r.bytes)) (1 + r.tokens)))
+      front-over : r.count ≡ n → FrontMet o k t s at (Over (Ok (walked_to (cursor (c.at + r.bytes)) (1 + r.tokens))))
       unfolding resumed Resumable repeat progress plus
       front-over e =
           let none : n - r.count ≡ 0 = omega arith in
@@ -228,7 +228,7 @@ module _ (o : Order) (k : ℕ) (t : Tree) (s : List ℕ) (at : ℕ) where
             eq =
                 total
                 ∙ ap (λ (j : ℕ). plus (1 + r.tokens) (progress (repeat element j (c.at + r.bytes)))) none
-                ∙ ap (λ (j : ℕ). Walked (cursor (c.at + r.bytes)) j) (add-zero (1 + r.tokens));
+                ∙ ap (λ (j : ℕ). Ok (walked_to (cursor (c.at + r.bytes)) j)) (add-zero (1 + r.tokens));
             within = tt;
           }
 

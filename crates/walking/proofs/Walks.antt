@@ -3,6 +3,10 @@
 use mathlib.Core.Path.{◌≡◌, refl, sym, ap, subst, ◌∙◌}
 use mathlib.Core.List.{List}
 use Prim.Native.Nat.{ℕ, suc, ◌+◌, ◌-◌, ◌<◌, ◌≤◌}
+use Rattle.std.specs.Prelude.{Option, Some, None, Result, Ok, Err}
+use Rattle.descriptor.specs.inner.Steps.{refusal_at}
+use Rattle.descriptor.specs.declared.refusal.Refusal.{Refusal}
+use Rattle.flattened.specs.declared.progress.Walked.{Walked}
 use native.Mathlib.Nat.{sub-zero}
 use native.Mathlib.Omega.{arith}
 use lib.ListN.{length}
@@ -15,12 +19,10 @@ use Rattle.descriptor.proofs.Standing.{row-none}
 use Rattle.flattened.specs.Order.{Order}
 use Rattle.flattened.specs.Token.{Token}
 use Rattle.flattened.specs.Walk.{follow, repeat, walk, walk_all}
-use Rattle.flattened.specs.inner.Cursor.{cursor}
-use Rattle.flattened.specs.inner.Progress.{progress, plus, tokens_of}
+use Rattle.flattened.specs.inner.Cursor.{word, cursor}
+use Rattle.flattened.specs.inner.Progress.{walked_to, progress, plus, tokens_of}
 use Rattle.flattened.specs.inner.Types.{type_at, types_at, TypeStands, RowStands}
 use Rattle.flattened.specs.declared.cursor.Cursor.{Cursor}
-use Rattle.flattened.specs.declared.progress.Progress.{Progress}
-use Rattle.flattened.specs.declared.progress.Progress.TheVariants.{Walked, Refused}
 use Rattle.flattened.proofs.Forward.{Forward, walk-forward, all-forward, repeat-forward}
 use Rattle.flattened.proofs.Progresses.{plus-plus, plus_none, progress-holds, follow-walked, follow-refused}
 use Rattle.flattened.proofs.Types.{RowTurn, row-turn, type-solid, types-solid}
@@ -31,7 +33,7 @@ pub record Ahead (s : List ℕ) (from count at : ℕ) : Type 0 where
   pub inside : at ≤ length s
 
 pub walked-ahead : (s : List ℕ) (least from : ℕ) (o : Outcome (List Token)) → Holds (λ q ts. Forward s least from q ts) o
-    → (c : Cursor) (k : ℕ) → Walked c k ≡ progress o → Ahead s from k c.at
+    → (c : Cursor) (k : ℕ) → Ok (walked_to c k) ≡ progress o → Ahead s from k c.at
 walked-ahead s least from o h c k e =
     let r = progress-holds o c k e h in
     record { tokens = omega (arith, r.1, r.2.tokens); inside = r.2.inside }
@@ -73,13 +75,13 @@ module _ (d : List ℕ) (o : Order) (s : List ℕ) (k start from left : ℕ) whe
           ∙ ap (λ (f : Forest). plus tokens (progress (walk_all o f s at))) row_here.types
 
       -- the next refuses
-      pub row-stop : (number place : ℕ) → Refused number place ≡ progress (walk o (type_at d p) s at)
-          → Refused number place ≡ progress (walk_all o (types_at d k start) s from)
+      pub row-stop : (number place : ℕ) → Err (refusal_at number place) ≡ progress (walk o (type_at d p) s at)
+          → Err (refusal_at number place) ≡ progress (walk_all o (types_at d k start) s from)
       unfolding plus
       row-stop number place e = sym (rest ∙ ap (plus tokens) (follow-refused (walk o (type_at d p) s at) others number place e))
 
       -- the next is read
-      module _ (c : Cursor) (n : ℕ) (e : Walked c n ≡ progress (walk o (type_at d p) s at)) where
+      module _ (c : Cursor) (n : ℕ) (e : Ok (walked_to c n) ≡ progress (walk o (type_at d p) s at)) where
         pub row-ahead : Ahead s at n c.at
         row-ahead =
             walked-ahead s 1 at (walk o (type_at d p) s at) (walk-forward s (type_at d p) (type-solid d p left row_here.first) o at loop.ahead.inside) c n e
@@ -93,19 +95,19 @@ module _ (d : List ℕ) (o : Order) (s : List ℕ) (k start from left : ℕ) whe
         }
 
     -- none is left
-    pub row-end : k ≤ i → Walked (cursor at) tokens ≡ progress (walk_all o (types_at d k start) s from)
+    pub row-end : k ≤ i → Ok (walked_to (cursor at) tokens) ≡ progress (walk_all o (types_at d k start) s from)
     unfolding plus progress walk_all forest_of
     row-end h =
         let e : k - i ≡ 0 = omega arith in
         let none : types_at d (k - i) p ≡ nil = ap (λ (n : ℕ). types_at d n p) e ∙ ap forest_of (row-none d p) in
         sym (loop.same
         ∙ ap (λ (f : Forest). plus tokens (progress (walk_all o f s at))) none
-        ∙ ap (λ (n : ℕ). Walked (cursor at) n) (let z : tokens + 0 ≡ tokens = omega arith in z))
+        ∙ ap (λ (n : ℕ). Ok (walked_to (cursor at) n)) (let z : tokens + 0 ≡ tokens = omega arith in z))
 
 -- the loop over rows
 module _ (d : List ℕ) (o : Order) (s : List ℕ) (k start left : ℕ) (row : RowStands d k start left) (at : ℕ) (inside : at ≤ length s) where
   -- a row that is read
-  pub types-ahead : (c : Cursor) (n : ℕ) → Walked c n ≡ progress (walk_all o (types_at d k start) s at) → Ahead s at n c.at
+  pub types-ahead : (c : Cursor) (n : ℕ) → Ok (walked_to c n) ≡ progress (walk_all o (types_at d k start) s at) → Ahead s at n c.at
   types-ahead c n e =
       walked-ahead s _ at (walk_all o (types_at d k start) s at) (all-forward s (types_at d k start) (types-solid d k start left row) o at inside) c n e
 
@@ -115,7 +117,7 @@ module _ (d : List ℕ) (p left : ℕ) (type : TypeStands d p left) (o : Order) 
   values = repeat (λ a. walk o (type_at d p) s a) n from
 
   -- where they are read
-  pub values-ahead : from ≤ length s → (c : Cursor) (k : ℕ) → Walked c k ≡ progress values → Ahead s from k c.at
+  pub values-ahead : from ≤ length s → (c : Cursor) (k : ℕ) → Ok (walked_to c k) ≡ progress values → Ahead s from k c.at
   values-ahead h c k e =
       walked-ahead s 0 from values (repeat-forward s 1 (λ a. walk o (type_at d p) s a) (λ a l. walk-forward s (type_at d p) (type-solid d p left type) o a l) n from h) c k e
 
@@ -124,6 +126,6 @@ module _ (d : List ℕ) (p left : ℕ) (type : TypeStands d p left) (o : Order) 
   unfolding tokens_of
   values-few h = go (progress values) refl
     where
-      go : (r : Progress) → r ≡ progress values → tokens_of r ≤ length s
-      go (Walked c k) e = let ahead = values-ahead h c k e in omega (arith, ahead.tokens, ahead.inside)
-      go (Refused number place) e = omega arith
+      go : (r : Result Walked Refusal) → r ≡ progress values → tokens_of r ≤ length s
+      go (Ok (walked_to c k)) e = let ahead = values-ahead h c k e in omega (arith, ahead.tokens, ahead.inside)
+      go (Err (refusal_at number place)) e = omega arith

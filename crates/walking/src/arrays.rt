@@ -5,7 +5,7 @@ ghost use Rattle.descriptor.specs.Header.{code_in};
 ghost use Rattle.descriptor.specs.Width.{width_of};
 ghost use Rattle.descriptor.specs.inner.Standing.{Stands};
 ghost use Rattle.flattened.specs.inner.Order.{order_of};
-ghost use Rattle.flattened.specs.inner.Extent.{type_rule, extent_of};
+ghost use Rattle.flattened.specs.inner.Extent.{type_limit, extent_of};
 ghost use Rattle.flattened.specs.inner.Types.{type_at, TypeStands, DataAt};
 ghost use Rattle.flattened.specs.inner.Arrays.{EachKeeps};
 ghost use Rattle.walking.specs.inner.Fronts.{Passes, PassesEither, PassesAround, LeftAfter, FrontMet};
@@ -52,7 +52,7 @@ fn kept(d: &[u8], p: usize, w: usize, n: usize, s: &[u8], at: usize, o: Order) -
     requires stands { Stands d.now p }
     requires w_value { w ≡ width_of (code_in d.now p) }
     requires w_in_bounds { at + n * w ≤ length s.now }
-    ensures { (result ≤ n) × EachKeeps (type_rule (type_at d.now p)) (order_of o) s.now w at result }
+    ensures { (result ≤ n) × EachKeeps (type_limit (type_at d.now p)) (order_of o) s.now w at result }
 {
     let rule = rule_of(d, p);
     match rule {

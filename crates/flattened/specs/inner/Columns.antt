@@ -1,12 +1,11 @@
 -- The judged numbers of a type's values: where each stands, by the extents of what goes before it, and that it keeps its rule. And the
 -- elements of an array one after another, by their extent.
-use Rattle.std.specs.Prelude.{◌≡◌, Bool, true, List, ℕ, zero, suc, ◌+◌, ◌*◌, ◌≤◌, ◌<◌, length}
+use Rattle.std.specs.Prelude.{◌≡◌, Bool, true, List, ℕ, zero, suc, ◌+◌, ◌*◌, ◌≤◌, ◌<◌, length, Option, Some, None}
 use Rattle.descriptor.specs.Tree.{Fields, empty, items, pairs, text, dimensions, members, subtype, Tree, node, Forest, nil, cons}
 use Rattle.descriptor.specs.Width.{width_of}
 use Rattle.flattened.specs.Order.{Order, number_at}
-use Rattle.flattened.specs.inner.Extent.{rule_of, keeps, least, tokens_in, extent_of}
-use Rattle.flattened.specs.declared.cursor.Skip.{Skip}
-use Rattle.flattened.specs.declared.cursor.Skip.TheVariants.{To, Cut}
+use Rattle.flattened.specs.inner.Extent.{limit_of, keeps, least, tokens_in, extent_of}
+use Rattle.flattened.specs.declared.cursor.Cursor.{Cursor}
 use Rattle.flattened.specs.declared.extent.Extent.{Extent}
 use Rattle.flattened.specs.declared.extent.Extent.TheVariants.{Varies, Fixed, Around}
 
@@ -28,9 +27,9 @@ pub record Ahead (x : Extent) (p : ℕ) : Type 0 where
   pub tokens : tokens_in x ≤ 8 * p
 
 -- where the cursor arrives, if it does not leave the data
-unfoldable pub ArrivesAt : List ℕ → ℕ → Skip → Type 0
-ArrivesAt s q Cut = Unit {0}
-ArrivesAt s q (To c) = (c.at ≡ q) × (c.at ≤ length s)
+unfoldable pub ArrivesAt : List ℕ → ℕ → Option Cursor → Type 0
+ArrivesAt s q None = Unit {0}
+ArrivesAt s q (Some c) = (c.at ≡ q) × (c.at ≤ length s)
 
 module _ (o : Order) (s : List ℕ) where
   -- the place past a value of the extent at `at`
@@ -40,7 +39,7 @@ module _ (o : Order) (s : List ℕ) where
   beyond (Around b a k j) at = at + b + 4 + number_at o s (at + b) 4 + a
 
   -- the cursor past so many bytes, a string and so many bytes
-  abbrev pub Across : ℕ → ℕ → ℕ → Skip → Type 0
+  abbrev pub Across : ℕ → ℕ → ℕ → Option Cursor → Type 0
   Across before after at r = ArrivesAt s (at + before + 4 + number_at o s (at + before) 4 + after) r
 
   -- the place of the i-th value of the extent in a row, the first at `at`
@@ -50,9 +49,9 @@ module _ (o : Order) (s : List ℕ) where
 
   -- a scalar's number keeps its rule; `inside` says so of the descriptors in a cluster
   unfoldable pub KeptFields : ℕ → Fields → ℕ → Type 0 → Type 0
-  KeptFields c empty at inside = keeps (rule_of empty) (number_at o s at (width_of c)) ≡ true
-  KeptFields c (items xs) at inside = keeps (rule_of (items xs)) (number_at o s at (width_of c)) ≡ true
-  KeptFields c (pairs ps) at inside = keeps (rule_of (pairs ps)) (number_at o s at (width_of c)) ≡ true
+  KeptFields c empty at inside = keeps (limit_of empty) (number_at o s at (width_of c)) ≡ true
+  KeptFields c (items xs) at inside = keeps (limit_of (items xs)) (number_at o s at (width_of c)) ≡ true
+  KeptFields c (pairs ps) at inside = keeps (limit_of (pairs ps)) (number_at o s at (width_of c)) ≡ true
   KeptFields c text at inside = Unit {0}
   KeptFields c (dimensions k) at inside = Unit {0}
   KeptFields c (members k) at inside = inside

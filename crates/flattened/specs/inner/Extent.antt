@@ -1,9 +1,7 @@
 -- What a type takes in data where no value of it takes more or less, or only one string does; and how the numbers of a scalar are judged.
-use Rattle.std.specs.Prelude.{Bool, true, false, ◌||◌, ℕ, ◌+◌, ltb, length}
+use Rattle.std.specs.Prelude.{Bool, true, false, ◌||◌, ℕ, ◌+◌, ltb, length, Option, Some, None, is_some}
 use Rattle.descriptor.specs.Tree.{Fields, empty, items, pairs, text, dimensions, members, subtype, Tree, node, Forest, nil, cons}
 use Rattle.descriptor.specs.Width.{width_of}
-use Rattle.flattened.specs.declared.extent.Rule.{Rule}
-use Rattle.flattened.specs.declared.extent.Rule.TheVariants.{Any, Below}
 use Rattle.flattened.specs.declared.extent.Extent.{Extent}
 use Rattle.flattened.specs.declared.extent.Extent.TheVariants.{Varies, Fixed, Around}
 
@@ -18,27 +16,22 @@ is_scalar (members k) = false
 is_scalar subtype = false
 
 -- "An enumeration's number is below its item count (H)."
-unfoldable pub rule_of : Fields → Rule
-rule_of empty = Any
-rule_of (items xs) = Below (length xs)
-rule_of (pairs ps) = Any
-rule_of text = Any
-rule_of (dimensions k) = Any
-rule_of (members k) = Any
-rule_of subtype = Any
+unfoldable pub limit_of : Fields → Option ℕ
+limit_of empty = None
+limit_of (items xs) = Some (length xs)
+limit_of (pairs ps) = None
+limit_of text = None
+limit_of (dimensions k) = None
+limit_of (members k) = None
+limit_of subtype = None
 
-unfoldable pub type_rule : Tree → Rule
-type_rule (node c b f m) = rule_of b
+unfoldable pub type_limit : Tree → Option ℕ
+type_limit (node c b f m) = limit_of b
 
--- whether a rule refuses any number
-unfoldable pub judges : Rule → Bool
-judges Any = false
-judges (Below limit) = true
-
--- whether the number v keeps the rule
-unfoldable pub keeps : Rule → ℕ → Bool
-keeps Any v = true
-keeps (Below limit) v = ltb v limit
+-- whether the number v is below it
+unfoldable pub keeps : Option ℕ → ℕ → Bool
+keeps None v = true
+keeps (Some limit) v = ltb v limit
 
 -- one extent and then another: one string at most
 unfoldable pub joint : Extent → Extent → Extent
@@ -64,9 +57,9 @@ tokens_in (Around b a k j) = k
 
 -- by a type's code and fields; `inside` is the extent of the descriptors in it
 unfoldable pub extent_fields : ℕ → Fields → Extent → Extent
-extent_fields c empty inside = Fixed (width_of c) 1 (judges (rule_of empty))
-extent_fields c (items xs) inside = Fixed (width_of c) 1 (judges (rule_of (items xs)))
-extent_fields c (pairs ps) inside = Fixed (width_of c) 1 (judges (rule_of (pairs ps)))
+extent_fields c empty inside = Fixed (width_of c) 1 (is_some (limit_of empty))
+extent_fields c (items xs) inside = Fixed (width_of c) 1 (is_some (limit_of (items xs)))
+extent_fields c (pairs ps) inside = Fixed (width_of c) 1 (is_some (limit_of (pairs ps)))
 extent_fields c text inside = Around 0 0 1 false
 extent_fields c (dimensions k) inside = Varies
 extent_fields c (members k) inside = inside

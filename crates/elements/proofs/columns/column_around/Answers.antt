@@ -1,10 +1,13 @@
 -- The answers to the goals of `column_around`.
 use mathlib.Core.Path.{subst}
 use Prim.Native.Nat.{ℕ, ◌<◌}
+use Rattle.std.specs.Prelude.{Option, Some, None, Result, Ok, Err}
+use Rattle.descriptor.specs.inner.Steps.{refusal_at}
+use Rattle.descriptor.specs.declared.refusal.Refusal.{Refusal}
+use Rattle.flattened.specs.declared.progress.Walked.{Walked}
 use native.Mathlib.Omega.{arith}
 use Rattle.flattened.specs.inner.Order.{order_of}
 use Rattle.flattened.specs.inner.Columns.{ArrivesAt, Across}
-use Rattle.flattened.specs.declared.cursor.Skip.{Skip}
 use Rattle.elements.proofs.Placing.{column-begin, column-next}
 use Rattle.elements.proofs.columns.column_around.Goals as goal
 

@@ -1,7 +1,5 @@
 -- `around_joint` meets its contract: by the extent that follows.
-use mathlib.Core.Path.{sym, ap, ◌∙◌}
-use mathlib.Core.Bool.{Bool}
-use Prim.Native.Nat.{◌+◌}
+use mathlib.Core.Path.{sym, ap}
 use native.Mathlib.Omega.{arith}
 use Rattle.flattened.specs.inner.Extent.{joint, least, tokens_in}
 use Rattle.flattened.specs.declared.extent.Extent.TheVariants.{Around}
@@ -24,8 +22,7 @@ pub returns-in-Fixed : goal.returns-in-Fixed
 unfolding joint
 returns-in-Fixed c =
     let a = c.args in
-    ap (λ (b : Bool). Around a.before (a.after + c.in-Fixed.v) (a.k + c.in-Fixed.n) b) c.either.ensures
-    ∙ ap (joint (Around a.before a.after a.k a.j)) (sym c.in-Fixed.is)
+    ap (joint (Around a.before a.after a.k a.j)) (sym c.in-Fixed.is)
 
 pub returns-in-Around : goal.returns-in-Around
 unfolding joint

@@ -1,10 +1,8 @@
 -- `fixed_joint` meets its contract: by the extent that follows.
-use mathlib.Core.Path.{sym, ap, ◌∙◌}
-use mathlib.Core.Bool.{Bool}
-use Prim.Native.Nat.{◌+◌}
+use mathlib.Core.Path.{sym, ap}
 use native.Mathlib.Omega.{arith}
 use Rattle.flattened.specs.inner.Extent.{joint, least, tokens_in}
-use Rattle.flattened.specs.declared.extent.Extent.TheVariants.{Fixed, Around}
+use Rattle.flattened.specs.declared.extent.Extent.TheVariants.{Fixed}
 use borrow.Author.Rules.{rules}
 use Rattle.flattened.proofs.extent.fixed_joint.Goals as goal
 
@@ -32,10 +30,10 @@ pub returns-in-Fixed : goal.returns-in-Fixed
 unfolding joint
 returns-in-Fixed c =
     let a = c.args in
-    ap (λ (b : Bool). Fixed (a.w + c.in-Fixed.v) (a.k + c.in-Fixed.n) b) c.either.ensures ∙ ap (joint (Fixed a.w a.k a.j)) (sym c.in-Fixed.is)
+    ap (joint (Fixed a.w a.k a.j)) (sym c.in-Fixed.is)
 
 pub returns-in-Around : goal.returns-in-Around
 unfolding joint
 returns-in-Around c =
     let a = c.args in
-    ap (λ (b : Bool). Around (a.w + c.in-Around.before) c.in-Around.after (a.k + c.in-Around.n) b) c.either-in-Around.ensures ∙ ap (joint (Fixed a.w a.k a.j)) (sym c.in-Around.is)
+    ap (joint (Fixed a.w a.k a.j)) (sym c.in-Around.is)

@@ -14,32 +14,32 @@ pub returns-in_default : goal.returns-in_default
 returns-in_default c =
     let a = c.args in
     let s = a.s.now in
-    scalar-cut a.d.now a.p c.requires.stands a.w c.requires.w_value.0 c.requires.w_value.1 (order_of a.o) s a.from.at (skip-cut s a.from.at a.w (sym c.in_default.is ∙ c.skip.ensures))
+    rw c.at.ensures (scalar-cut a.d.now a.p c.requires.stands a.w c.requires.w_value.0 c.requires.w_value.1 (order_of a.o) s a.from.at (skip-cut s a.from.at a.w (sym c.in_default.is ∙ c.skip.ensures)))
 
-pub rule_of-rule-requires : goal.rule_of-rule-requires
-rule_of-rule-requires c = c.requires.stands
+pub limit_of-requires : goal.limit_of-requires
+limit_of-requires c = c.requires.stands
 
 pub narrow_number-requires : goal.narrow_number-requires
 narrow_number-requires c =
     let a = c.args in
     let s = a.s.now in
-    let narrow = rule-narrow a.d.now a.p c.requires.stands _ (sym c.in-Below.is ∙ c.rule_of-rule.ensures) in
-    record { narrow = rw c.requires.w_value.0 narrow; w_in_bounds = (skip-to s a.from.at a.w _ (sym c.in-To.is ∙ c.skip.ensures)).fits }
+    let narrow = rule-narrow a.d.now a.p c.requires.stands _ (sym c.in-Some-limit_of.is ∙ c.limit_of.ensures) in
+    record { narrow = rw c.requires.w_value.0 narrow; w_in_bounds = (skip-to s a.from.at a.w _ (sym c.in-Some.is ∙ c.skip.ensures)).fits }
 
 pub returns-then-limit-narrow_number : goal.returns-then-limit-narrow_number
 returns-then-limit-narrow_number c =
     let a = c.args in
     let s = a.s.now in
-    scalar-refused a.d.now a.p c.requires.stands a.w c.requires.w_value.0 c.requires.w_value.1 (order_of a.o) s a.from.at _ (skip-to s a.from.at a.w _ (sym c.in-To.is ∙ c.skip.ensures)) _ (sym c.in-Below.is ∙ c.rule_of-rule.ensures) _ c.narrow_number.ensures c.if-limit-narrow_number.true
+    rw c.at-then-limit-narrow_number.ensures (scalar-refused a.d.now a.p c.requires.stands a.w c.requires.w_value.0 c.requires.w_value.1 (order_of a.o) s a.from.at _ (skip-to s a.from.at a.w _ (sym c.in-Some.is ∙ c.skip.ensures)) _ (sym c.in-Some-limit_of.is ∙ c.limit_of.ensures) _ c.narrow_number.ensures c.if-limit-narrow_number.true)
 
-pub returns-in-Any : goal.returns-in-Any
-returns-in-Any c =
+pub returns-in_default-limit_of : goal.returns-in_default-limit_of
+returns-in_default-limit_of c =
     let a = c.args in
     let s = a.s.now in
-    scalar-any a.d.now a.p c.requires.stands a.w c.requires.w_value.0 c.requires.w_value.1 (order_of a.o) s a.from.at _ (skip-to s a.from.at a.w _ (sym c.in-To.is ∙ c.skip.ensures)) (sym c.in-Any.is ∙ c.rule_of-rule.ensures)
+    scalar-any a.d.now a.p c.requires.stands a.w c.requires.w_value.0 c.requires.w_value.1 (order_of a.o) s a.from.at _ (skip-to s a.from.at a.w _ (sym c.in-Some.is ∙ c.skip.ensures)) (sym c.in_default-limit_of.is ∙ c.limit_of.ensures)
 
 pub returns-else-limit-narrow_number : goal.returns-else-limit-narrow_number
 returns-else-limit-narrow_number c =
     let a = c.args in
     let s = a.s.now in
-    scalar-kept a.d.now a.p c.requires.stands a.w c.requires.w_value.0 c.requires.w_value.1 (order_of a.o) s a.from.at _ (skip-to s a.from.at a.w _ (sym c.in-To.is ∙ c.skip.ensures)) _ (sym c.in-Below.is ∙ c.rule_of-rule.ensures) _ c.narrow_number.ensures (omega (arith, c.if-limit-narrow_number.false))
+    scalar-kept a.d.now a.p c.requires.stands a.w c.requires.w_value.0 c.requires.w_value.1 (order_of a.o) s a.from.at _ (skip-to s a.from.at a.w _ (sym c.in-Some.is ∙ c.skip.ensures)) _ (sym c.in-Some-limit_of.is ∙ c.limit_of.ensures) _ c.narrow_number.ensures (omega (arith, c.if-limit-narrow_number.false))

@@ -1,11 +1,7 @@
 -- `size_words` meets its contract. The invariant: the sizes that are left, and the capped product so far, stand for all.
-use Prim.Native.Nat.{◌-◌}
 use Rattle.flattened.specs.inner.Order.{order_of}
 use Rattle.flattened.proofs.Products.{SizesLoop}
 use Rattle.flattened.proofs.sizes.size_words.Given as goal
 
 abbrev pub invariant-loop-i : goal.invariant-loop-i
-invariant-loop-i l = SizesLoop (order_of l.o) l.s l.dims l.at l.n l.i
-
-abbrev pub decreases-loop-i : goal.decreases-loop-i
-decreases-loop-i l = l.dims - l.i
+invariant-loop-i l = SizesLoop (order_of l.o) l.s l.dims l.at l.count l.i

@@ -3,7 +3,6 @@ use mathlib.Core.Path.{subst}
 use native.Mathlib.Omega.{arith}
 use Rattle.flattened.specs.inner.Order.{order_of}
 use Rattle.flattened.specs.inner.Columns.{Across}
-use Rattle.flattened.specs.declared.cursor.Skip.{Skip}
 use Rattle.walking.proofs.Arounds.{around-begin, around-next, around-passes}
 use Rattle.walking.proofs.arrays.pass_around.Goals as goal
 

@@ -1,6 +1,10 @@
 -- The answers to the goals of `+array_row_rows_value_walk`.
 use mathlib.Core.Path.{◌≡◌, sym, ap, subst, ◌∙◌}
 use Prim.Native.Nat.{◌≤◌}
+use Rattle.std.specs.Prelude.{Option, Some, None, Result, Ok, Err}
+use Rattle.descriptor.specs.inner.Steps.{refusal_at}
+use Rattle.descriptor.specs.declared.refusal.Refusal.{Refusal}
+use Rattle.flattened.specs.declared.progress.Walked.{Walked}
 use native.Mathlib.Omega.{arith}
 use lib.ListN.{length}
 use Rattle.descriptor.specs.Codes.{string, array, kind_of}
@@ -11,11 +15,10 @@ use Rattle.descriptor.proofs.CodeKinds.{kind_named, known}
 use Rattle.descriptor.proofs.Bodies.{header-room}
 use Rattle.flattened.specs.Walk.{repeat, walk, walk_all}
 use Rattle.flattened.specs.inner.Order.{order_of}
-use Rattle.flattened.specs.inner.Progress.{progress, plus, tokens_of}
+use Rattle.flattened.specs.inner.Progress.{walked_to, progress, plus, tokens_of}
 use Rattle.flattened.specs.inner.Types.{type_at, types_at}
 use Rattle.walking.specs.inner.Fronts.{resumed, Resumable, FrontMet}
 use Rattle.walking.specs.declared.arrays.Front.{Front}
-use Rattle.flattened.specs.declared.progress.Progress.{Progress}
 use Rattle.flattened.proofs.Cases.{compound-inside, row_inside, compound}
 use Rattle.flattened.proofs.Types.{type-deep, alone}
 use Rattle.flattened.proofs.Repeats.{repeat-one}
@@ -43,7 +46,7 @@ array-after-requires t c =
     let s = a.s.now in
     let left = subst (λ (f : Front). Resumable s f) c.in-Rest.is c.requires.resumable.0 in
     let few : tokens_of c.walk.result ≤ length s =
-    subst (λ (r : Progress). tokens_of r ≤ length s) (sym c.walk.ensures) (values-few d a.p a.left c.requires.type_stands (order_of a.o) s _ _ left.1) in
+    subst (λ (r : Result Walked Refusal). tokens_of r ≤ length s) (sym c.walk.ensures) (values-few d a.p a.left c.requires.type_stands (order_of a.o) s _ _ left.1) in
     omega (arith, left.0, left.1, c.requires.resumable.1)
 
 pub array-returns-in-Over : goal.array-returns-in-Over

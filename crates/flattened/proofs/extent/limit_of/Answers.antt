@@ -1,4 +1,4 @@
--- `rule_of` meets its contract: an enumeration has items, any other code no rule.
+-- `limit_of` meets its contract: an enumeration has items, any other code no rule.
 use mathlib.Core.Path.{◌≡◌, sym, ap, ◌∙◌}
 use Prim.Native.Nat.{ℕ}
 use Rattle.descriptor.specs.Codes.{enumeration, kind_of}
@@ -7,7 +7,7 @@ use Rattle.descriptor.proofs.CodeKinds.{enumeration-is}
 use Rattle.descriptor.proofs.Bodies.{header-room}
 use Rattle.descriptor.proofs.Steps.{impossible}
 use Rattle.flattened.proofs.Cases.{rule-items, rule-any}
-use Rattle.flattened.proofs.extent.rule_of.Goals as goal
+use Rattle.flattened.proofs.extent.limit_of.Goals as goal
 
 pub code_at-requires : goal.code_at-requires
 code_at-requires c = let a = c.args in header-room a.d.now a.p c.requires
@@ -22,4 +22,4 @@ pub returns : goal.returns
 returns c =
     let start = c in
     let kind = enumeration-is _ (ap (λ (x : ℕ). is_enumeration (kind_of x)) (sym c.code_at.ensures) ∙ sym c.is_enumeration.ensures ∙ c.if-not-is_enumeration.false) in
-    rule-items start.args.d.now start.args.p start.requires (sym kind) _ c.inside_of-inside.ensures
+    rule-items start.args.d.now start.args.p start.requires (sym kind) _ c.inside_of.ensures
