@@ -39,17 +39,14 @@ fn same_within(a: &[u8], b: &[u8], k: usize, start: usize, stop: usize, levels: 
             return false;
         }
         let f = inside_of(a, p);
-        if f.children == 0 {
-            if !same_run(a, b, reserved + 1, end) {
-                return false;
-            }
+        let same = if f.children == 0 {
+            same_run(a, b, reserved + 1, end)
         } else {
-            if !same_run(a, b, reserved + 1, f.at) {
-                return false;
-            }
-            if !same_within(a, b, f.children, f.at, end, levels - 1) {
-                return false;
-            }
+            same_run(a, b, reserved + 1, f.at)
+                && same_within(a, b, f.children, f.at, end, levels - 1)
+        };
+        if !same {
+            return false;
         }
         p = end;
     }

@@ -2,7 +2,7 @@
 -- the one from the start. Rests on `Filling`.
 use mathlib.Core.Path.{◌≡◌, refl, ap, sym, subst, ◌∙◌}
 use mathlib.Core.List.{List}
-use Prim.Native.Nat.{ℕ, zero, suc, ◌+◌, ◌-◌, ◌<◌, ◌≤◌}
+use Prim.Native.Nat.{ℕ, zero, suc, ◌+◌, ◌-◌, ◌^◌, ◌<◌, ◌≤◌}
 use native.Mathlib.Omega.{arith}
 use lib.ListN.{length, get_or, set, replicate, length-set}
 use lib.Seq.{get_or-set_same, get_or-set_other}
@@ -10,7 +10,7 @@ use Rattle.descriptor.specs.Limits.{row_limit, depth_limit}
 use Rattle.descriptor.specs.Tree.{node}
 use Rattle.descriptor.specs.Header.{body_at, size_in, code_in}
 use Rattle.descriptor.specs.inner.Standing.{Stands, is_read, shape_of}
-use Rattle.descriptor.specs.inner.Filling.{zero_rows, row_read, RowPre, TablePre, empty_table, filled}
+use Rattle.descriptor.specs.inner.Filling.{row_read, RowPre, TablePre, unfilled, filled}
 use Rattle.descriptor.specs.declared.inside.Inside.{Inside}
 use Rattle.descriptor.specs.declared.answer.Row.{Row}
 use Rattle.descriptor.specs.inner.Filling.{Table}
@@ -76,13 +76,10 @@ pub record Resuming (s : List ℕ) (goal t : Table) (os : List Open) (level k : 
   pub fits : Fits s os level (filled s (left_at level) k t)
   pub same : goal ≡ resumed s os level (filled s (left_at level) k t)
 
-pub resume_begin : (s : List ℕ) (rows : List Row) → rows ≡ zero_rows → (o : Open) → TablePre s depth_limit 1 empty_table
-    → Resuming s (filled s depth_limit 1 empty_table) (record { rows = rows; n = 0; at = 0 }) (replicate depth_limit o) 0 1
+resume-begin : (s : List ℕ) (rows : List Row) (o : Open) → TablePre s depth_limit 1 (unfilled rows)
+    → Resuming s (filled s depth_limit 1 (unfilled rows)) (unfilled rows) (replicate depth_limit o) 0 1
 unfolding Fits resumed
-resume_begin s rows er o pre = subst
-    (λ (x : List Row). Resuming s (filled s depth_limit 1 empty_table) (record { rows = x; n = 0; at = 0 }) (replicate depth_limit o) 0 1)
-    (sym er)
-    (record { deep = omega arith; long = refl; pre = pre; fits = refl; same = refl })
+resume-begin s rows o pre = record { deep = omega arith; long = refl; pre = pre; fits = refl; same = refl }
 
 -- the same by other names of the two numbers
 resume-as : (s : List ℕ) (goal t : Table) (os : List Open) (level k level' k' : ℕ) → Resuming s goal t os level k → level ≡ level' → k ≡ k'
@@ -211,63 +208,95 @@ module _ (s : List ℕ) (goal t : Table) (os : List Open) (level k : ℕ) (r : R
             ∙ ap (λ (x : Open). resumed s kept level (filled s left x.rest (closed s level x inner))) there;
       }
 
--- The turns of the loop, by what it has in hand.
-module _ (s : List ℕ) (goal t : Table) (os : List Open) (level k : ℕ) (r : Resuming s goal t os level k) where
+-- The filling as the loop keeps it, and each of its turns by what the code has in hand.
+unfoldable pub Filling : List ℕ → List Row → List Row → ℕ → ℕ → List Open → ℕ → ℕ → Type 0
+Filling s before rows n at os level k = Resuming s (filled s depth_limit 1 (unfilled before)) (record { rows = rows; n = n; at = at }) os level k
+
+pub fill_begin : (s : List ℕ) (rows : List Row) (o : Open) → TablePre s depth_limit 1 (unfilled rows) → Filling s rows rows 0 0 (replicate depth_limit o) 0 1
+unfolding Filling
+fill_begin s rows o pre = resume-begin s rows o pre
+
+module _ (s : List ℕ) (before rows : List Row) (n at : ℕ) (os : List Open) (level k : ℕ) (l : Filling s before rows n at os level k) where
+  abbrev goal : Table
+  goal = filled s depth_limit 1 (unfilled before)
+
+  abbrev table : Table
+  table = record { rows = rows; n = n; at = at }
+
+  pub fill_deep : level ≤ depth_limit
+  unfolding Filling
+  fill_deep = l.deep
+
   -- nothing ahead and nothing open
-  pub turn_done : k ≡ 0 → level ≡ 0 → t.rows ≡ goal.rows
-  turn_done ek el = ap (λ (x : Table). x.rows) (resume-done s goal t os (resume-as s goal t os level k 0 0 r el ek))
+  pub fill_done : k ≡ 0 → level ≡ 0 → rows ≡ goal.rows
+  unfolding Filling
+  fill_done ek el = ap (λ (x : Table). x.rows) (resume-done s goal table os (resume-as s goal table os level k 0 0 l el ek))
 
   -- nothing ahead, and one to close
   module _ (ek : k ≡ 0) (some : 0 < level) where
     abbrev last : Open
     last = open_at os (level - 1)
 
-    closing-one : Resuming s goal t os (suc (level - 1)) 0
-    closing-one = resume-as s goal t os level k (suc (level - 1)) 0 r (omega arith) ek
+    closing-one : Resuming s goal table os (suc (level - 1)) 0
+    unfolding Filling
+    closing-one = resume-as s goal table os level k (suc (level - 1)) 0 l (omega arith) ek
 
-    pub close_row : RowPre s (level - 1 + 1) last.start last.size last.count t.at
-    close_row = close-row s goal t os (level - 1) closing-one
+    pub close_row : RowPre s (level - 1 + 1) last.start last.size last.count at
+    close_row = close-row s goal table os (level - 1) closing-one
 
     pub close_place : last.n < row_limit
-    close_place = (close-asks s goal t os (level - 1) closing-one).place
+    close_place = (close-asks s goal table os (level - 1) closing-one).place
 
-    pub turn_close : (x : Row) → x ≡ row_read s (level - 1 + 1) last.start last.code last.size last.count t.at
-        → Resuming s goal (record { rows = set t.rows last.n x; n = t.n; at = last.start + last.size }) os (level - 1) last.rest
-    turn_close = resume-row s goal t os (level - 1) closing-one
+    pub close_end : last.start + last.size < 2 ^ 16
+    close_end = omega (arith, close_row.inside, close_row.small)
+
+    pub turn_close : Filling s before (set rows last.n (row_read s (level - 1 + 1) last.start last.code last.size last.count at)) n (last.start + last.size) os (level - 1) last.rest
+    unfolding Filling
+    turn_close = resume-row s goal table os (level - 1) closing-one _ refl
 
   -- the first one ahead
   module _ (more : 0 < k) where
-    ahead-one : Resuming s goal t os level (suc (k - 1))
-    ahead-one = resume-as s goal t os level k level (suc (k - 1)) r refl (omega arith)
+    ahead-one : Resuming s goal table os level (suc (k - 1))
+    unfolding Filling
+    ahead-one = resume-as s goal table os level k level (suc (k - 1)) l refl (omega arith)
 
-    one : First s (left_at level) (k - 1) t
-    one = first s (left_at level) (k - 1) t ahead-one.pre
+    one : First s (left_at level) (k - 1) table
+    one = first s (left_at level) (k - 1) table ahead-one.pre
 
-    pub ahead_stands : Stands s t.at
+    pub ahead_stands : Stands s at
     unfolding is_read
-    ahead_stands = record { is = ap is_read one.stands; small = omega (arith, r.pre.small) }
+    ahead_stands = record { is = ap is_read one.stands; small = omega (arith, ahead-one.pre.small) }
 
-    pub ahead_header : body_at t.at ≤ length s
+    pub ahead_header : body_at at ≤ length s
     ahead_header = omega (arith, one.opened.size, one.opened.least, one.opened.inside)
 
-    pub ahead_inside : t.at + size_in s t.at ≤ length s
-    ahead_inside = omega (arith, one.opened.size, one.opened.inside)
+    pub ahead_end : at + size_in s at < 2 ^ 16
+    ahead_end = omega (arith, one.opened.size, one.opened.inside, ahead-one.pre.small)
 
-    pub ahead_room : t.n < row_limit
-    ahead_room = omega (arith, room s (left_at level) (k - 1) t ahead-one.pre one)
+    pub ahead_room : n < row_limit
+    ahead_room = omega (arith, room s (left_at level) (k - 1) table ahead-one.pre one)
 
     pub ahead_low : level < depth_limit
-    ahead_low = omega (arith, low s (left_at level) (k - 1) t ahead-one.pre one)
+    ahead_low = omega (arith, low s (left_at level) (k - 1) table ahead-one.pre one)
 
-    module _ (size : ℕ) (es : size ≡ size_in s t.at) (code : ℕ) (ec : code ≡ code_in s t.at) (b : Inside) (eb : b ≡ shape_of s t.at) where
-      pub leaf_row : b.children ≡ 0 → RowPre s (level + 1) t.at size b.count b.at
-      leaf_row = leaf-row s goal t os level (k - 1) ahead-one one size es code ec b eb
+    abbrev shape : Inside
+    shape = shape_of s at
 
-      pub turn_leaf : b.children ≡ 0 → (x : Row) → x ≡ row_read s (level + 1) t.at code size b.count b.at
-          → Resuming s goal (record { rows = set t.rows t.n x; n = t.n + 1; at = t.at + size }) os level (k - 1)
-      turn_leaf = resume-leaf s goal t os level (k - 1) ahead-one one size es code ec b eb
+    -- with none in it
+    module _ (none : shape.children ≡ 0) where
+      pub leaf_row : RowPre s (level + 1) at (size_in s at) shape.count shape.at
+      leaf_row = leaf-row s goal table os level (k - 1) ahead-one one (size_in s at) refl (code_in s at) refl shape refl none
 
-      pub turn_open : Resuming s goal (record { rows = t.rows; n = t.n + 1; at = b.at })
-          (set os level (record { n = t.n; start = t.at; size = size; count = b.count; rest = k - 1; code = code })) (level + 1) b.children
-      turn_open =
-          resume-as s goal _ _ (suc level) b.children (level + 1) b.children (resume-open s goal t os level (k - 1) ahead-one one size es code ec b eb) (omega arith) refl
+      pub turn_leaf : Filling s before (set rows n (row_read s (level + 1) at (code_in s at) (size_in s at) shape.count shape.at)) (n + 1) (at + size_in s at) os level (k - 1)
+      unfolding Filling
+      turn_leaf = resume-leaf s goal table os level (k - 1) ahead-one one (size_in s at) refl (code_in s at) refl shape refl none _ refl
+
+    -- with some in it
+    pub turn_open : Filling s before rows (n + 1) shape.at
+        (set os level (record { n = n; start = at; size = size_in s at; count = shape.count; rest = k - 1; code = code_in s at })) (level + 1) shape.children
+    unfolding Filling
+    turn_open =
+        resume-as s goal _ _ (suc level) shape.children (level + 1) shape.children
+        (resume-open s goal table os level (k - 1) ahead-one one (size_in s at) refl (code_in s at) refl shape refl) (omega arith) refl
+
+pub ruleset turns = (fill_begin, fill_deep, fill_done, close_row, close_place, close_end, turn_close, ahead_stands, ahead_header, ahead_end, ahead_room, ahead_low, leaf_row, turn_leaf, turn_open)

@@ -3,7 +3,7 @@ ghost use Rattle.std.specs.Prelude.{◌≡◌, ◌+◌, ◌-◌};
 ghost use Rattle.descriptor.specs.Limits.{depth_limit};
 ghost use Rattle.descriptor.specs.Header.{size_in, code_in};
 ghost use Rattle.descriptor.specs.inner.Standing.{Stands, shape_of};
-ghost use Rattle.descriptor.specs.inner.Filling.{zero_rows, RowPre, TablePre, row_read, empty_table, filled};
+ghost use Rattle.descriptor.specs.inner.Filling.{zero_rows, RowPre, TablePre, row_read, unfilled, filled};
 
 use descriptor::answer::Row;
 use descriptor::codes::is_enumeration;
@@ -91,13 +91,13 @@ pub struct Open {
     pub code: u8,
 }
 
-// The rows of an accepted descriptor. The descriptors whose children are being filled lie in `open`, the top first; k stand ahead at `at`
-// in the innermost.
-pub fn tabulate(d: &[u8]) -> [Row; 256]
-    requires { TablePre d.now depth_limit 1 empty_table }
-    ensures { result ≡ (filled d.now depth_limit 1 empty_table).rows }
+// Fills the rows of an accepted descriptor into a table. The descriptors whose children are being filled lie in `open`, the top first; k stand
+// ahead at `at` in the innermost.
+#[tactic(auto, using(crate::proofs::Resuming::turns))]
+pub fn tabulate(d: &[u8], rows: &mut [Row; 256])
+    requires { TablePre d.now depth_limit 1 (unfilled rows.old) }
+    ensures { rows.new ≡ (filled d.now depth_limit 1 (unfilled rows.old)).rows }
 {
-    let mut rows = zero_rows();
     let mut open = [Open::default(); DEPTH_LIMIT];
     let mut n = 0;
     let mut at = 0;
@@ -106,7 +106,7 @@ pub fn tabulate(d: &[u8]) -> [Row; 256]
     loop {
         if k == 0 {
             if level == 0 {
-                return rows;
+                return;
             }
             level -= 1;
             let o = open[level];

@@ -37,9 +37,13 @@ pub record Table : Type 0 where
 unfoldable pub zero_rows : List Row
 zero_rows = replicate row_limit zero_row
 
--- the table with no row filled, at the first byte
+-- rows of which none is filled yet, at the first byte
+abbrev pub unfilled : List Row → Table
+unfilled rows = record { rows = rows; n = 0; at = 0 }
+
+-- the zero table so
 abbrev pub empty_table : Table
-empty_table = record { rows = zero_rows; n = 0; at = 0 }
+empty_table = unfilled zero_rows
 
 -- the k descriptors that stand where the table goes on
 abbrev pub ahead : List ℕ → ℕ → Table → Forest
