@@ -7,11 +7,11 @@ use native.Mathlib.Nat.{add-mul, mul-le-mul_right, le-max_left, le-max_right}
 use native.Mathlib.Decide.{dec_lt}
 use native.Mathlib.Numerals.{add-one}
 use native.Mathlib.Omega.{arith}
-use mathlib.Core.Bool.{cond}
-use Rattle.std.specs.Ordering.{nat_cmp, ord_max, is_lt, MatchOrdering}
-use Rattle.std.proofs.lemmas.Cmp.{ranked}
+use mathlib.Core.Bool.{true, false}
+use Rattle.std.specs.Ordering.{nat_cmp, partial_lt}
+use Rattle.std.specs.Prelude.{Option, Some}
+use Rattle.std.proofs.lemmas.Bool.Decides.{nat_tests}
 use Rattle.std.specs.declared.cmp.Ordering.{Ordering}
-use Rattle.std.specs.declared.cmp.Ordering.TheVariants.{Less, Equal, Greater}
 use Rattle.flattened.specs.Order.{Order, number_at}
 use Rattle.elements.specs.inner.Largest.{largest, EachLow}
 
@@ -29,15 +29,13 @@ apart-here w step at end k n h room = omega (arith, more_within step at (at + n 
 pub apart_more : (w step at end k j n : ℕ) → k + j ≤ n → at + n * step + w ≤ end + step → at + k * step + j * step + w ≤ end + step
 apart_more w step at end k j n h room = omega (arith, more_within step at (at + n * step) k j n h (omega arith))
 
--- the larger of two values that are ordered as their numbers are
-pub larger : {A : Type 0} (value : A → ℕ) (cmp : A → A → Ordering) → ((x y : A) → cmp x y ≡ nat_cmp (value x) (value y)) → (a b : A)
-    → value (ord_max cmp a b) ≡ max (value a) (value b)
-larger value cmp ordered a b = go (cmp b a) (ranked (value b) (value a) (cmp b a) (ordered b a))
-  where
-    go : (o : Ordering) → MatchOrdering o (value b < value a) (value b ≡ value a) (value a < value b) → value (cond (is_lt o) a b) ≡ max (value a) (value b)
-    go Less h = omega arith
-    go Equal h = omega arith
-    go Greater h = omega arith
+-- a value that the other is more than, and one that it is not, where they are ordered as their numbers are
+module _ {A : Type 0} (value : A → ℕ) (cmp : A → A → Option Ordering) (ordered : (x y : A) → cmp x y ≡ Some (nat_cmp (value x) (value y))) (a b : A) where
+  pub larger : true ≡ partial_lt cmp a b → value b ≡ max (value a) (value b)
+  larger e = let less = rw (ordered a b) at e in grind (arith, nat_tests)
+
+  pub not-larger : false ≡ partial_lt cmp a b → value a ≡ max (value a) (value b)
+  not-larger e = let less = rw (ordered a b) at e in grind (arith, nat_tests)
 
 module _ (o : Order) (s : List ℕ) (w step at : ℕ) where
   -- one number more

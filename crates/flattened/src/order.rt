@@ -1,5 +1,5 @@
 // Numbers of one, two and four bytes in a byte order.
-ghost use Rattle.std.specs.Prelude.{◌≡◌, ℕ, ◌+◌, ◌≤◌, length, refl};
+ghost use Rattle.std.specs.Prelude.{◌≡◌, ℕ, ◌+◌, ◌≤◌, Some, length, refl};
 ghost use Rattle.std.specs.Ordering.{nat_cmp};
 ghost use Rattle.flattened.specs.Order.{number_at};
 ghost use Rattle.flattened.specs.inner.Order.{order_of, Narrow};
@@ -12,7 +12,7 @@ pub enum Order {
 }
 
 // The numbers of one width, by the type that holds one.
-pub trait Number: Copy + Default + Ord {
+pub trait Number: Copy + Default + PartialOrd {
     // How many bytes a number has.
     ghost WIDTH: { ℕ };
 
@@ -34,7 +34,7 @@ pub trait Number: Copy + Default + Ord {
     ghost starts: { (x : Self) → Self.is_default x → value x ≡ 0 };
 
     // They are ordered as the numbers are.
-    ghost ordered: { (x y : Self) → Self.cmp x y ≡ nat_cmp (value x) (value y) };
+    ghost ordered: { (x y : Self) → Self.partial_cmp x y ≡ Some (nat_cmp (value x) (value y)) };
 }
 
 // A byte is the same number in either order.
