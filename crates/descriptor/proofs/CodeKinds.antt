@@ -173,22 +173,19 @@ pub in-range : (k : Kind) (n low : ℕ) → all_are k n low ≡ true → (c : �
 in-range k n low e c h l = ap kind_is (sym (among k n low e c h l))
 
 -- the kind that the code names so
-abbrev pub kind_by_name : CodeKind → Kind
-kind_by_name kinds.Plain = plain
-kind_by_name kinds.Enumeration = enumeration
-kind_by_name kinds.Quantity = quantity
-kind_by_name kinds.Text = string
-kind_by_name kinds.Array = array
-kind_by_name kinds.Cluster = cluster
-kind_by_name kinds.Stamp = stamp
-kind_by_name kinds.Unknown = unknown
-
-unfoldable pub kind_named : CodeKind → Kind
-kind_named r = kind_by_name r
+abbrev pub kind_named : CodeKind → Kind
+kind_named kinds.Plain = plain
+kind_named kinds.Enumeration = enumeration
+kind_named kinds.Quantity = quantity
+kind_named kinds.Text = string
+kind_named kinds.Array = array
+kind_named kinds.Cluster = cluster
+kind_named kinds.Stamp = stamp
+kind_named kinds.Unknown = unknown
 
 -- what a code names is the kind
 pub named-is : (k : Kind) → kind_named (kind_is k) ≡ k
-unfolding kind_named kind_is
+unfolding kind_is
 named-is unknown = refl
 named-is plain = refl
 named-is enumeration = refl
@@ -203,6 +200,5 @@ pub known : (r name : CodeKind) (k : Kind) → r ≡ kind_is k → r ≡ name �
 known r name k e q = ap kind_named (sym q ∙ e) ∙ named-is k
 
 -- the kind of a code by the name that it has in the code
-pub kind_known : (code : ℕ) (r : CodeKind) → r ≡ kind_is (kind_of code) → kind_of code ≡ kind_by_name r
-unfolding kind_named
+pub kind_known : (code : ℕ) (r : CodeKind) → r ≡ kind_is (kind_of code) → kind_of code ≡ kind_named r
 kind_known code r e = sym (named-is (kind_of code)) ∙ ap kind_named (sym e)
