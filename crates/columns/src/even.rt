@@ -188,7 +188,7 @@ pub fn even_step(d: &[u8], p: usize, n: usize, left: usize) -> Option<usize>
     }
     match extent_of(d, p, left) {
         Extent::Varies => None,
-        Extent::Fixed(step, _, _) => Some(step),
-        Extent::Around(before, _, _, _) => None,
+        Extent::Fixed(step, ..) => Some(step),
+        Extent::Around(..) => None,
     }
 }

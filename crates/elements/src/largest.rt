@@ -69,17 +69,6 @@ fn low_within(limit: usize, s: &[u8], at: usize, w: usize, step: usize, n: usize
     count
 }
 
-// The smaller of two lengths.
-pub fn shorter(a: usize, b: usize) -> usize
-    requires { (0 < a) × (0 < b) }
-    ensures { (0 < result) × (result ≤ b) }
-{
-    if a < b {
-        return a;
-    }
-    b
-}
-
 // The stretch after one that is passed: eight times as long, up to 4,096.
 pub fn longer(stretch: usize) -> usize
     requires { 0 < stretch }
