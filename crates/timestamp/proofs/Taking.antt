@@ -1,5 +1,5 @@
 -- One time less another as the code has it: seconds that are handed on from 64 signed bits to 128, and the fraction modulo 2^64. Assumes nothing.
-use Rattle.std.proofs.Common.{◌≡◌, ℕ, ◌^◌, ◌<◌, ◌≤◌, cond, Bool, true, false, ℤ, pos, negsuc, ◌+ℤ◌, ◌-ℤ◌, ◌*ℤ◌, refl, arith, w32, w64, SFits, to_z, of_z, to_z-of_z, le-ltb, lt-ltb}
+use Rattle.std.proofs.Common.{◌≡◌, ℕ, ◌+◌, ◌-◌, ◌%◌, ◌^◌, ◌<◌, ◌≤◌, cond, Bool, true, false, ℤ, pos, negsuc, ◌+ℤ◌, ◌-ℤ◌, ◌*ℤ◌, refl, arith, w32, w64, SFits, to_z, of_z, to_z-of_z, le-ltb, lt-ltb}
 use mir.Syntax.{w128}
 use mir.Val.{bool_byte}
 use lib.Signed.{mag}
@@ -37,6 +37,10 @@ module _ (x y : ℤ) {u v b : ℤ} {n : ℕ} (f : mag x < 2 ^ 63) (g : mag y < 2
 -- seconds of halves that are handed on
 pub seconds-handed : (a b : ℤ) → SFits w32 a → SFits w32 b → to_z w32 (of_z w32 a) *ℤ pos (2 ^ 32) +ℤ pos (bits_of (to_z w32 (of_z w32 b))) ≡ a *ℤ pos (2 ^ 32) +ℤ pos (bits_of b)
 seconds-handed a b f g = simp to_z-of_z
+
+-- what wraps back to x is the difference modulo 2^64
+pub fraction-is : (r x y : ℕ) → (r + y) % 2 ^ 64 ≡ x → r < 2 ^ 64 → y < 2 ^ 64 → r ≡ (x + 2 ^ 64 - y) % 2 ^ 64
+fraction-is r x y e h k = omega arith
 
 -- what is given of seconds that fit, and of others
 fit-signed : (z : ℤ) → SFits w64 z → is_signed z ≡ true

@@ -1,6 +1,6 @@
 use Rattle.std.proofs.Common.{◌≡◌, ◌+◌, ◌-◌, ◌%◌, ◌^◌, ltb, pos, ◌-ℤ◌, ◌∙◌, arith, w64, SFits, to_z, of_z, to_z-of_z}
 use Rattle.timestamp.specs.Difference.{time_of, less, difference}
-use Rattle.timestamp.proofs.Taking.{wide, borrowed-few, borrowed-is, less-fits, less-is, seconds-handed, given-fit, given-far}
+use Rattle.timestamp.proofs.Taking.{wide, borrowed-few, borrowed-is, less-fits, less-is, seconds-handed, fraction-is, given-fit, given-far}
 use Rattle.timestamp.proofs.stamp_difference.Goals as goal
 use Rattle.timestamp.proofs.stamp_difference.Goals.{After-from-2}
 
@@ -26,7 +26,10 @@ returns-in-Ok c =
     let s = seconds (goal.at.returns-in-Ok c).After-from-2 in
     let fits : SFits w64 t.seconds = rw s at c.in-Ok.ensures.0 in
     let given : to_z w64 (of_z w64 c.in-Ok.seconds) ≡ t.seconds = cc (c.in-Ok.ensures.1, to_z-of_z fits) in
-    let fraction : (c.fraction_of-x.result + (2 ^ 64 - c.fraction_of-y.result)) % 2 ^ 64 ≡ t.fraction = omega arith in
+    let x = c.fraction_of-x.result in
+    let y = c.fraction_of-y.result in
+    let wrapped = (x + (2 ^ 64 - y)) % 2 ^ 64 in
+    let fraction : wrapped ≡ t.fraction = fraction-is wrapped x y (omega arith) (omega arith) (omega arith) ∙ cc (c.fraction_of-x.ensures, c.fraction_of-y.ensures) in
     (λ i. record { answer = c.accepted.ensures i; seconds = given i; fraction = fraction i }) ∙ given-fit t fits
 
 pub returns-in-Err : goal.returns-in-Err
