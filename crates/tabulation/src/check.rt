@@ -11,13 +11,14 @@ use validation::validate::validate;
 pub fn check_descriptor(d: &[u8]) -> Checked
     ensures { result ≡ with_table (descriptor_check d.now) }
 {
-    let mut rows = zero_rows();
-    let answer = match validate(d) {
-        Ok(v) => {
-            tabulate(d, &mut rows);
-            Answer::accepted(v.value)
-        }
-        Err(refusal) => refusal.of(Input::First),
-    };
-    Checked { answer, rows }
+    match validate(d) {
+        Ok(v) => Checked {
+            answer: Answer::accepted(v.value),
+            rows: tabulate(d),
+        },
+        Err(refusal) => Checked {
+            answer: refusal.of(Input::First),
+            rows: zero_rows(),
+        },
+    }
 }

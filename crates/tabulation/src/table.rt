@@ -3,7 +3,7 @@ ghost use Rattle.std.specs.Prelude.{◌≡◌, ◌+◌, ◌-◌};
 ghost use Rattle.descriptor.specs.Limits.{depth_limit};
 ghost use Rattle.descriptor.specs.Header.{size_in, code_in};
 ghost use Rattle.descriptor.specs.inner.Standing.{Stands, shape_of};
-ghost use Rattle.descriptor.specs.inner.Filling.{zero_rows, RowPre, TablePre, row_read, unfilled, filled};
+ghost use Rattle.descriptor.specs.inner.Filling.{zero_rows, RowPre, TablePre, row_read, empty_table, filled};
 
 use descriptor::answer::Row;
 use descriptor::codes::is_enumeration;
@@ -58,10 +58,21 @@ pub fn shape(d: &[u8], p: usize, stop: usize) -> Inside
     requires stop_value { stop ≡ p + size_in d.now p }
     ensures { result ≡ shape_of d.now p }
 {
-    shape_by(d, p, stop, code_at(d, p))
+    let b = inside_of(d, p);
+    if !is_enumeration(code_at(d, p)) {
+        return b;
+    }
+    let Ok(w) = packed_strings(d, stop, b.count, b.at) else {
+        // The items of an accepted descriptor are read.
+        return b;
+    };
+    Inside {
+        at: w.next + (w.next - p) % 2,
+        ..b
+    }
 }
 
-// The same where the code is in hand.
+// The same where the code is in hand: most have no items, and `inside_of` is enough.
 #[tactic(auto, using(crate::proofs::Items::shape_laws))]
 fn shape_by(d: &[u8], p: usize, stop: usize, code: u8) -> Inside
     requires stands { Stands d.now p }
@@ -69,15 +80,10 @@ fn shape_by(d: &[u8], p: usize, stop: usize, code: u8) -> Inside
     requires code_value { code ≡ code_in d.now p }
     ensures { result ≡ shape_of d.now p }
 {
-    let b = inside_of(d, p);
-    if !is_enumeration(code) {
-        return b;
+    if is_enumeration(code) {
+        return shape(d, p, stop);
     }
-    let w = packed_strings(d, stop, b.count, b.at).unwrap();
-    Inside {
-        at: w.next + (w.next - p) % 2,
-        ..b
-    }
+    inside_of(d, p)
 }
 
 // A descriptor whose children are being filled: its row's number, what its row says, and how many descriptors stand after it in its row.
@@ -91,13 +97,14 @@ pub struct Open {
     pub code: u8,
 }
 
-// Fills the rows of an accepted descriptor into a table. The descriptors whose children are being filled lie in `open`, the top first; k stand
-// ahead at `at` in the innermost.
+// The rows of an accepted descriptor. The descriptors whose children are being filled lie in `open`, the top first; k stand ahead at `at`
+// in the innermost.
 #[tactic(auto, using(crate::proofs::Resuming::turns))]
-pub fn tabulate(d: &[u8], rows: &mut [Row; 256])
-    requires { TablePre d.now depth_limit 1 (unfilled rows.old) }
-    ensures { rows.new ≡ (filled d.now depth_limit 1 (unfilled rows.old)).rows }
+pub fn tabulate(d: &[u8]) -> [Row; 256]
+    requires { TablePre d.now depth_limit 1 empty_table }
+    ensures { result ≡ (filled d.now depth_limit 1 empty_table).rows }
 {
+    let mut rows = zero_rows();
     let mut open = [Open::default(); DEPTH_LIMIT];
     let mut n = 0;
     let mut at = 0;
@@ -106,7 +113,7 @@ pub fn tabulate(d: &[u8], rows: &mut [Row; 256])
     loop {
         if k == 0 {
             if level == 0 {
-                return;
+                return rows;
             }
             level -= 1;
             let o = open[level];
