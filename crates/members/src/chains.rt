@@ -1,9 +1,10 @@
 // Members by the marks of their names: those with one mark are chained, so that a search passes all others by.
 ghost use Rattle.std.specs.Prelude.{◌≡◌, ◌<◌, ◌^◌};
 ghost use Rattle.number.specs.inner.Post.{Bounded};
-ghost use Rattle.members.specs.inner.Names.{has_chars};
-ghost use Rattle.members.specs.inner.Chains.{spread, mark_of, last_of, member, Unchained, Chained, Marked};
+ghost use Rattle.members.specs.inner.Names.{NamesLie, has_chars};
+ghost use Rattle.members.specs.inner.Chains.{spread, mark_of, last_of, member, Unchained, Linked, Chained, Marked};
 
+use super::names::same_name;
 use super::roster::Roster;
 use number::endian::{be32, read_be};
 
@@ -46,6 +47,31 @@ fn member(entry: u16) -> Option<usize>
     usize::from(entry).checked_sub(1)
 }
 
+// The last of the k members that has this name, of those up to the one that `from` names, which has its mark.
+#[tactic(auto, using(crate::proofs::Chaining::chain_laws))]
+pub fn last_namesake(
+    d: &[u8],
+    k: usize,
+    names: &[u16; 256],
+    links: &[u16; 256],
+    from: u16,
+    name: &[u8],
+) -> Option<usize>
+    requires names_lie { NamesLie d.now names.now k }
+    requires linked { Linked d.now names.now k links.now }
+    requires marked { Marked d.now names.now k (mark_of name.now) from }
+    ensures { result ≡ member (last_of (has_chars name.now) d.now names.now from) }
+{
+    let mut entry = from;
+    while let Some(i) = member(entry) {
+        if same_name(d, usize::from(names[i]), name) {
+            return Some(i);
+        }
+        entry = links[i];
+    }
+    None
+}
+
 impl<'a> Chains<'a> {
     // Chains the members of a roster, in columns of zeros.
     #[tactic(auto, using(crate::proofs::Chaining::chain_laws))]
@@ -72,18 +98,18 @@ impl<'a> Chains<'a> {
     }
 
     // The last member that has this name, of those up to the one that `from` names, which has its mark.
-    #[tactic(auto, using(crate::proofs::Chaining::chain_laws))]
+    #[tactic(auto, using(crate::proofs::Listing::roster_laws))]
     pub fn last_namesake(&self, from: u16, name: &[u8]) -> Option<usize>
         requires { Marked self.now.roster.d.now self.now.roster.names.now self.now.roster.count (mark_of name.now) from }
         ensures { result ≡ member (last_of (has_chars name.now) self.now.roster.d.now self.now.roster.names.now from) }
     {
-        let mut entry = from;
-        while let Some(i) = member(entry) {
-            if self.roster.is_named(i, name) {
-                return Some(i);
-            }
-            entry = self.links[i];
-        }
-        None
+        last_namesake(
+            self.roster.d,
+            self.roster.count,
+            self.roster.names,
+            self.links,
+            from,
+            name,
+        )
     }
 }

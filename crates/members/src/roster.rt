@@ -5,7 +5,7 @@ ghost use Rattle.descriptor.specs.inner.Standing.{Stands};
 ghost use Rattle.members.specs.inner.Members.{Members, Listed, Column, top_at, top_count, place_from, name_from, row_from};
 ghost use Rattle.members.specs.inner.Names.{named_at, has_chars};
 
-use super::names::name_at;
+use super::names::{name_at, same_name};
 use super::rows::{member_row, name_place};
 use descriptor::answer::Row;
 use descriptor::header::size_at;
@@ -68,12 +68,12 @@ impl<'a> Roster<'a> {
     }
 
     // Whether that is its name.
-    #[tactic(auto, using(crate::proofs::Same::same_laws))]
+    #[tactic(auto, using(crate::proofs::Listing::roster_laws))]
     pub fn is_named(&self, i: usize, name: &[u8]) -> bool
         requires { i < self.now.count }
         ensures { result ≡ has_chars name.now (named_at self.now.d.now (slice_index self.now.names.now i)) }
     {
-        self.name(i) == Some(name)
+        same_name(self.d, usize::from(self.names[i]), name)
     }
 
     // Its row.

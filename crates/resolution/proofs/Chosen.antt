@@ -14,7 +14,7 @@ use Rattle.flattened.specs.inner.Types.{type_at}
 use Rattle.members.specs.inner.Members.{Inner, Listed, top_at, place_from, type_from, row_from}
 use Rattle.members.specs.inner.Names.{name_of, has_chars}
 use Rattle.members.specs.inner.Chains.{last_of, member}
-use Rattle.members.proofs.Listing.{row-start, member-inner}
+use Rattle.members.proofs.Listing.{row-start, member-inner, listed-lie}
 use Rattle.resolution.specs.Record.{Member, matches, namesakes, searched, search_number, member_found}
 use Rattle.resolution.specs.inner.Data.{data_from, member_from}
 use Rattle.resolution.specs.inner.Searching.{all_members, bare, Finds}
@@ -104,4 +104,4 @@ module _ (w : List ℕ) (k : ℕ) (t : Tree) (j : ℕ) (places names x : List �
         }
 
 -- what `pick` finds its answers with
-pub ruleset pick_laws = (sought-some, pick-inner)
+pub ruleset pick_laws = (listed-lie, sought-some, pick-inner)

@@ -12,7 +12,7 @@ use Rattle.descriptor.proofs.Steps.{impossible}
 use Rattle.members.specs.inner.Members.{Listed, top_at, type_from, row_from}
 use Rattle.members.specs.inner.Names.{name_of, named_at, has_chars}
 use Rattle.members.specs.inner.Chains.{mark_of, last_of, member, Linked, Chained, Marked}
-use Rattle.members.proofs.Listing.{member-name}
+use Rattle.members.proofs.Listing.{member-name, listed-lie}
 use Rattle.members.proofs.Chaining.{same-mark, last-most, last-is, Follows, follows-head, follows-link, entry-is}
 use Rattle.resolution.specs.Record.{Member, matches, namesakes, searched}
 use Rattle.resolution.specs.inner.Data.{member_from, members_for}
@@ -176,4 +176,4 @@ module _ (w : List ℕ) (k : ℕ) (places names x : List ℕ) (listed : Listed w
       absurd (cc)
 
 -- what the search finds its answers with
-pub ruleset search_laws = (seek-marked, seek-last, seek-missing, seek-within, seek-before, seek-doubled, seek-found)
+pub ruleset search_laws = (listed-lie, seek-marked, seek-last, seek-missing, seek-within, seek-before, seek-doubled, seek-found)

@@ -1,35 +1,46 @@
 // The search for a name among the rig's members.
 ghost use Rattle.std.specs.Prelude.{◌≡◌};
-ghost use Rattle.members.specs.inner.Names.{has_chars};
-ghost use Rattle.members.specs.inner.Chains.{member, last_of};
+ghost use Rattle.members.specs.inner.Names.{NamesLie, has_chars};
+ghost use Rattle.members.specs.inner.Chains.{member, last_of, Linked, Chained};
 ghost use Rattle.resolution.specs.Record.{search_number};
 ghost use Rattle.resolution.specs.inner.Searching.{Finds};
 
 use super::Search;
 use descriptor::refusal::Fault;
-use members::chains::{Chains, mark};
+use members::chains::{last_namesake, mark};
+use members::roster::Roster;
 
-// The last of the rig's members that has this name.
+// The last of the rig's k members that has this name.
 #[tactic(auto, using(crate::proofs::Seeking::search_laws))]
-pub fn last_named(w: &Chains, name: &[u8]) -> Option<usize>
-    ensures { result ≡ member (last_of (has_chars name.now) w.now.roster.d.now w.now.roster.names.now w.now.roster.count) }
+pub fn last_named(
+    w: &[u8],
+    k: usize,
+    names: &[u16; 256],
+    heads: &[u16; 256],
+    links: &[u16; 256],
+    name: &[u8],
+) -> Option<usize>
+    requires names_lie { NamesLie w.now names.now k }
+    requires chained { Chained w.now names.now k heads.now links.now }
+    ensures { result ≡ member (last_of (has_chars name.now) w.now names.now k) }
 {
-    w.last_namesake(w.heads[mark(name)], name)
+    last_namesake(w, k, names, links, heads[mark(name)], name)
 }
 
 // What the search for a name finds among the rig's members, `last` being the last that has it.
 #[tactic(auto, using(crate::proofs::Seeking::search_laws))]
-pub fn search(w: &Chains, name: &[u8], last: Option<usize>) -> Search
-    requires { last ≡ member (last_of (has_chars name.now) w.now.roster.d.now w.now.roster.names.now w.now.roster.count) }
-    ensures { Finds w.now.roster.d.now w.now.roster.count name.now result }
+pub fn search(w: &Roster, links: &[u16; 256], name: &[u8], last: Option<usize>) -> Search
+    requires linked { Linked w.now.d.now w.now.names.now w.now.count links.now }
+    requires last { last ≡ member (last_of (has_chars name.now) w.now.d.now w.now.names.now w.now.count) }
+    ensures { Finds w.now.d.now w.now.count name.now result }
 {
     let Some(i) = last else {
         return Search::Missing;
     };
-    if w.last_namesake(w.links[i], name).is_some() {
+    if last_namesake(w.d, w.count, w.names, links, links[i], name).is_some() {
         return Search::Doubled;
     }
-    Search::Found(w.roster.row(i))
+    Search::Found(w.row(i))
 }
 
 // Document 01's number for what a search finds.

@@ -16,8 +16,15 @@ pub fn pick(w: &Chains, r: &[u8], q: usize, name: &[u8], j: usize) -> Result<usi
     requires { Called r.now q name.now }
     ensures { Picks w.now.roster.d.now w.now.roster.count (type_at r.now q) j result }
 {
-    let last = last_named(w, name);
-    let found = search(w, name, last);
+    let last = last_named(
+        w.roster.d,
+        w.roster.count,
+        w.roster.names,
+        w.heads,
+        w.links,
+        name,
+    );
+    let found = search(&w.roster, w.links, name, last);
     let Search::Found(row) = found else {
         return Err(Refusal {
             number: search_number(found),
