@@ -178,13 +178,14 @@ module _ (s d x : List ℕ) where
           add-narrow over = enters ∙ rw (missing, one_free, lt-leb (stop_of new) (length s) over) refl
 
           -- the record is written
-          pub add_done : b.end + (length d + length x) ≤ length s → Admitted s d x n new
+          pub add_done : b.end + (length d + length x) ≤ length s → id < 2 ^ 32 → Admitted s d x n new
           unfolding entered admitted absent
-          add_done room = record {
+          add_done room small = record {
             fits = record {
               room = room;
               entry = omega (arith, asked-count s b o, o.capacity, (asked-read s b o).capacity, (asked-read s b o).past);
               short = (asked-read s b o).short;
+              identifier = small;
             };
             is = enters ∙ rw (missing, one_free, le-leb (stop_of new) (length s) room, sym o.count) refl;
           }

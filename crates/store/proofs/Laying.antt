@@ -20,6 +20,10 @@ use Rattle.store.specs.declared.blank.Blank.{Blank as Lent}
 use Rattle.store.specs.declared.entry.Entry.{Entry}
 use Rattle.store.proofs.Entries.{blank-stop}
 
+-- with no gap: what starts as `follows` asks, and passes whatever else is asked, starts where the body before it ended
+pub body-start : (at start : ℕ) (more : Bool) → (follows at start && more) ≡ true → at ≡ start
+body-start at start more there = eqb-true at start (and-true (follows at start) more there).0
+
 -- what entry i says of its body, where the one before it ended at `at`
 module _ (s : List ℕ) (i at : ℕ) (e : Entry) (is : e ≡ entry_in s i) where
   abbrev here : ℕ
@@ -90,7 +94,7 @@ module _ (s : List ℕ) (i at : ℕ) where
 
     pub lies-start : at ≡ be s (entry_place i + 4) 4
     unfolding body_lies
-    lies-start = eqb-true _ _ (and-true (follows at (be s (entry_place i + 4) 4)) _ there).0
+    lies-start = body-start at (be s (entry_place i + 4) 4) _ there
 
   -- one that does not is not right
   pub body-away : body_lies s i at ≡ false → body_fits s i at ≡ false

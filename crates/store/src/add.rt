@@ -4,10 +4,11 @@ ghost use Rattle.std.proofs.lemmas.List.Edits.{sets};
 ghost use Rattle.store.specs.Questions.{with_record, added};
 ghost use Rattle.store.specs.inner.Entries.{entry_spelled};
 ghost use Rattle.store.specs.inner.Blanks.{blank_of};
-ghost use Rattle.store.specs.inner.Adding.{Fits, Admits};
+ghost use Rattle.store.specs.inner.Marks.{Marked};
+ghost use Rattle.store.specs.inner.Adding.{Fits, Entered, Admits};
 
 use super::blank::Blank;
-use super::entry::{Entry, entry_place};
+use super::entry::{Entries, Entry, entry_place};
 use super::identity::identify;
 use super::marks::{Marks, entry_of};
 use super::open::open_marked;
@@ -43,13 +44,24 @@ fn write_record(s: &mut [u8], n: usize, r: Blank)
 {
     write_body(s, r.start, r.descriptor, r.flattened);
     let e = Entry {
-        identifier: r.identifier,
+        identifier: r.identifier as u32,
         start: r.start as u32,
         first: r.descriptor.len() as u32,
         second: r.flattened.len() as u32,
     };
     write_entry(s, entry_place(n), e);
     write_be(s, 2, 2, (n + 1) as u64);
+}
+
+// The number of the entry that a record with this identifier gets, that after these; or 60, where one of them has it.
+fn entry_for(entries: Entries, identifier: usize, marks: &Marks) -> Result<usize, Answer>
+    requires { Marked entries.bytes.now entries.count marks.now.met }
+    ensures { Entered entries.entry.bytes.now entries.entry.count identifier result }
+{
+    match entry_of(entries, identifier, marks) {
+        Ok(i) => Err(Answer::refused(Fault::Taken, Input::Request, i)),
+        Err(n) => Ok(n),
+    }
 }
 
 // The record of d with the data x as it goes into the book, and the number of its entry; or why it may not.
@@ -62,10 +74,7 @@ fn admit<'a>(s: &[u8], d: &'a [u8], x: &'a [u8]) -> Result<(usize, Blank<'a>), A
         Err(refusal) => return Err(refusal.of(Input::Request)),
     };
     let identifier = identify(d, x)?;
-    let n = match entry_of(book.entries, identifier, &marks) {
-        Ok(i) => return Err(Answer::refused(Fault::Taken, Input::Request, i)),
-        Err(n) => n,
-    };
+    let n = entry_for(book.entries, identifier as usize, &marks)?;
     if book.capacity <= n {
         return Err(Answer::refused(Fault::NoEntry, Input::Request, 0));
     }
@@ -74,7 +83,7 @@ fn admit<'a>(s: &[u8], d: &'a [u8], x: &'a [u8]) -> Result<(usize, Blank<'a>), A
         return Err(Answer::refused(Fault::NoSpace, Input::Request, size));
     }
     let r = Blank {
-        identifier,
+        identifier: identifier as usize,
         start: book.end,
         descriptor: d,
         flattened: x,

@@ -6,7 +6,7 @@ ghost use Rattle.store.specs.inner.Blanks.{blank_of};
 // Its identifier, where its body starts in the book, and the body's two parts.
 #[derive(Clone, Copy)]
 pub struct Blank<'a> {
-    pub identifier: u32,
+    pub identifier: usize,
     pub start: usize,
     pub descriptor: &'a [u8],
     pub flattened: &'a [u8],

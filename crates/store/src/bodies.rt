@@ -17,7 +17,7 @@ pub fn says_at_once(d: Judged, span: Span, r: Blank) -> bool
     if r.flattened.len() != span.width {
         return false;
     }
-    be32(r.flattened, span.place) == r.identifier as usize
+    be32(r.flattened, span.place) == r.identifier
 }
 
 // The same of any data under the judged descriptor, by walking it.
@@ -27,5 +27,5 @@ pub fn says_walked(d: Judged, r: Blank, starts: &mut [u32; 257]) -> bool
     if walk_top(d.descriptor, r.flattened, starts).is_err() {
         return false;
     }
-    be32(r.flattened, starts[d.member] as usize) == r.identifier as usize
+    be32(r.flattened, starts[d.member] as usize) == r.identifier
 }

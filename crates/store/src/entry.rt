@@ -1,6 +1,6 @@
 // Entries: where they stand, what each says, and which of them has an identifier.
 ghost use Rattle.std.specs.Prelude.{◌≡◌, ◌+◌, ◌≤◌, ◌<◌, length};
-ghost use Rattle.store.specs.Layout.{book_limit, entry_place};
+ghost use Rattle.store.specs.Layout.{entry_place};
 ghost use Rattle.store.specs.inner.Entries.{entry_in, name_at, Sought};
 ghost use Rattle.store.specs.inner.Blanks.{Lays};
 
@@ -27,12 +27,12 @@ pub struct Entry {
     pub second: u32,
 }
 
-// The first entries of a book, so many: they lie in its bytes, of which there are no more than a book has.
+// The first entries of a book, so many: they lie in its bytes, and 16 bits count them.
 #[derive(Clone, Copy)]
 pub struct Entries<'a> {
     pub bytes: &'a [u8],
     pub count: usize,
-    pub ghost short: { length bytes.now ≤ book_limit },
+    pub ghost few: { count ≤ 65535 },
     pub ghost inside: { entry_place count ≤ length bytes.now },
 }
 
@@ -87,7 +87,7 @@ impl<'a> Entries<'a> {
             return None;
         }
         Some(Blank {
-            identifier: e.identifier,
+            identifier: e.identifier as usize,
             start,
             descriptor: &self.bytes[start..middle],
             flattened: &self.bytes[middle..stop],
@@ -95,11 +95,11 @@ impl<'a> Entries<'a> {
     }
 
     // The first that has this identifier.
-    pub fn seek(self, identifier: u32) -> Option<usize>
+    pub fn seek(self, identifier: usize) -> Option<usize>
         ensures { Sought self.entry.bytes.now self.entry.count identifier result }
     {
         for i in 0..self.count {
-            if self.identifier(i) == identifier {
+            if self.identifier(i) as usize == identifier {
                 return Some(i);
             }
         }

@@ -2,7 +2,7 @@
 ghost use Rattle.std.specs.Prelude.{◌≡◌, true, false, not, set, length, slice_index_or};
 ghost use Rattle.store.specs.Book.{is_one_of};
 ghost use Rattle.store.specs.inner.Entries.{seen_before, Placed};
-ghost use Rattle.store.specs.inner.Marks.{mark_count, mark_of, Marked};
+ghost use Rattle.store.specs.inner.Marks.{mark_count, mark_of, Marked, NoneLeft};
 
 use super::entry::Entries;
 
@@ -18,30 +18,32 @@ pub struct Marks {
 
 impl Marks {
     // None was left.
-    pub fn new() -> Marks {
+    pub fn new() -> Marks
+        ensures { NoneLeft result.met }
+    {
         Marks {
             met: [false; MARK_COUNT],
         }
     }
 
     // Whether the identifier's mark was met.
-    pub fn met(&self, identifier: u32) -> bool
+    pub fn met(&self, identifier: usize) -> bool
         ensures { result ≡ slice_index_or self.now.met (mark_of identifier) false }
     {
-        self.met[identifier as usize % MARK_COUNT]
+        self.met[identifier % MARK_COUNT]
     }
 
     // The identifier leaves its mark.
-    pub fn leave(&mut self, identifier: u32)
+    pub fn leave(&mut self, identifier: usize)
         ensures { self.new.met ≡ set self.old.met (mark_of identifier) true }
     {
-        self.met[identifier as usize % MARK_COUNT] = true;
+        self.met[identifier % MARK_COUNT] = true;
     }
 }
 
 // The first entry that has this identifier; else the number of the entry that a record with it gets, which is how many there are. Those have
 // left their marks: where it meets none, there is no search.
-pub fn entry_of(entries: Entries, identifier: u32, marks: &Marks) -> Result<usize, usize>
+pub fn entry_of(entries: Entries, identifier: usize, marks: &Marks) -> Result<usize, usize>
     requires { Marked entries.bytes.now entries.count marks.now.met }
     ensures { Placed entries.entry.bytes.now entries.entry.count identifier result }
 {
@@ -55,7 +57,7 @@ pub fn entry_of(entries: Entries, identifier: u32, marks: &Marks) -> Result<usiz
 }
 
 // Whether the identifier, that of the entry after these, is none of theirs. They have left their marks; so has it then.
-pub fn is_new(entries: Entries, identifier: u32, marks: &mut Marks) -> bool
+pub fn is_new(entries: Entries, identifier: usize, marks: &mut Marks) -> bool
     requires { Marked entries.bytes.now entries.count marks.old.met }
     ensures fresh { result ≡ not (is_one_of identifier (seen_before entries.entry.bytes.now entries.entry.count)) }
     ensures marked { marks.new.met ≡ set marks.old.met (mark_of identifier) true }

@@ -52,7 +52,7 @@ fn check_used(entries: Entries, from: usize, marks: &mut Marks) -> Result<usize,
             next: i + 1,
             at: r.stop(),
         };
-        run = run_on(entries, one, d, marks);
+        run = run_on(entries, one, Some(d), marks);
     }
     Ok(run.at)
 }

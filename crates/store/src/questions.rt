@@ -28,7 +28,7 @@ pub fn store_find(s: &[u8], identifier: u32) -> Part
         Ok(book) => book,
         Err(refusal) => return no_part(refusal.of(Input::Request)),
     };
-    let Some(i) = book.entries.seek(identifier) else {
+    let Some(i) = book.entries.seek(identifier as usize) else {
         return no_part(Answer::refused(Fault::NotFound, Input::Request, 0));
     };
     let e = book.entries.at(i);

@@ -14,10 +14,13 @@ pub struct Run {
 }
 
 // Goes on from the entry after `run` over those that have the bytes of d, data of its one span that is right, and an identifier whose mark was
-// not met. What ends the run is not judged; where the data of d varies in length, there is none.
-pub fn run_on(entries: Entries, run: Run, d: Judged, marks: &mut Marks) -> Run
+// not met. What ends the run is not judged; where there is no d, or its data varies in length, there is none.
+pub fn run_on(entries: Entries, run: Run, d: Option<Judged>, marks: &mut Marks) -> Run
     ensures { Ran entries.entry.bytes.now entries.entry.count marks.old.met run marks.new.met result }
 {
+    let Some(d) = d else {
+        return run;
+    };
     let Some(span) = d.span else {
         return run;
     };

@@ -16,18 +16,20 @@ returns-in_err-identifier c =
     let p = err_from_is_err_and c.from_residual.result c.from_residual.ensures.1 in
     rw (p.1, p.2) (add-own c.args.s.now c.args.d.now c.args.x.now _ c.in-Ok.ensures.book _ c.in_err-identifier.ensures)
 
-pub returns-in-Ok-entry_of : goal.returns-in-Ok-entry_of
-returns-in-Ok-entry_of c =
+pub returns-in_err-n : goal.returns-in_err-n
+returns-in_err-n c =
     let book = c.in-Ok.ensures.book in
-    rw c.refused.ensures
-    (add-taken c.args.s.now c.args.d.now c.args.x.now _ book _ c.in_ok-identifier.ensures _ (rw book.bytes at c.in-Ok-entry_of.ensures))
+    let p = err_from_is_err_and c.from_residual-in_err-n.result c.from_residual-in_err-n.ensures.1 in
+    let taken = c.in_err-n.ensures in
+    rw (p.1, p.2, taken.1)
+    (add-taken c.args.s.now c.args.d.now c.args.x.now _ book _ c.in_ok-identifier.ensures _ (rw book.bytes at taken.0))
 
 pub returns-then-book-n : goal.returns-then-book-n
 returns-then-book-n c =
     let book = c.in-Ok.ensures.book in
-    rw c.refused-then-book-n.ensures
-    (add-full c.args.s.now c.args.d.now c.args.x.now _ book _ c.in_ok-identifier.ensures (rw book.bytes at c.in-Err-entry_of.ensures.1)
-    (omega (arith, c.in-Err-entry_of.ensures.0)))
+    rw c.refused.ensures
+    (add-full c.args.s.now c.args.d.now c.args.x.now _ book _ c.in_ok-identifier.ensures (rw book.bytes at c.in_ok-n.ensures.1)
+    (omega (arith, c.in_ok-n.ensures.0)))
 
 pub overflow_add-book : goal.overflow_add-book
 overflow_add-book c =
@@ -43,12 +45,12 @@ pub returns-then-s-book : goal.returns-then-s-book
 returns-then-s-book c =
     let book = c.in-Ok.ensures.book in
     rw c.refused-then-s-book.ensures
-    (add-narrow c.args.s.now c.args.d.now c.args.x.now _ book _ c.in_ok-identifier.ensures (rw book.bytes at c.in-Err-entry_of.ensures.1)
-    (omega (arith, c.in-Err-entry_of.ensures.0)) c.if-s-book.true)
+    (add-narrow c.args.s.now c.args.d.now c.args.x.now _ book _ c.in_ok-identifier.ensures (rw book.bytes at c.in_ok-n.ensures.1)
+    (omega (arith, c.in_ok-n.ensures.0)) c.if-s-book.true)
 
 pub returns : goal.returns
 returns c =
     let book = c.in-Ok.ensures.book in
-    rw c.in-Err-entry_of.ensures.0
-    (add_done c.args.s.now c.args.d.now c.args.x.now _ book _ c.in_ok-identifier.ensures (rw book.bytes at c.in-Err-entry_of.ensures.1)
-    (omega (arith, c.in-Err-entry_of.ensures.0)) c.if-s-book.false)
+    rw c.in_ok-n.ensures.0
+    (add_done c.args.s.now c.args.d.now c.args.x.now _ book _ c.in_ok-identifier.ensures (rw book.bytes at c.in_ok-n.ensures.1)
+    (omega (arith, c.in_ok-n.ensures.0)) c.if-s-book.false (omega arith))

@@ -16,6 +16,6 @@ loop-i-preserved c =
       here = omega arith;
       ran = rw c.leave.ensures
           (run-next e.bytes.now e.count c.args.marks.now.met c.args.run l.marks.met l.run l.invariant.ran l.i l.invariant.here c.loop-i-test.true r
-          c.in-Some-blank.ensures (said-blank r c.args.d.descriptor.bytes.now (c.if-not-is.ensures refl) _ c.if-not-says_at_once.ensures) l.marks.long
+          c.in-Some-blank.ensures (said-blank r c.in-Some.d.descriptor.bytes.now (c.if-not-is.ensures refl) _ c.if-not-says_at_once.ensures) l.marks.long
           c.if-met.ensures _ c.stop.ensures);
     }
