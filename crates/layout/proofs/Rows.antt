@@ -1,14 +1,27 @@
 -- The numbers of rows: how many, of rows after rows, and one row more at the front of zeros.
 use mathlib.Core.Path.{◌≡◌, refl, ap, sym, ◌∙◌}
 use mathlib.Core.List.{List, [], ◌∷◌, ◌++◌}
-use Prim.Native.Nat.{ℕ, zero, suc, ◌+◌, ◌-◌, ◌*◌, ◌<◌}
+use Prim.Native.Nat.{ℕ, zero, suc, ◌+◌, ◌-◌, ◌*◌, ◌≤◌, ◌<◌}
 use native.Mathlib.Omega.{arith}
 use native.Mathlib.Numerals.{add-one}
-use lib.ListN.{length, take, drop, replicate, get_or}
-use lib.Seq.{take-suc, take_at, drop-append-add, length-take-le}
+use lib.ListN.{length, take, drop, set, replicate, get_or}
+use lib.Seq.{sets-eq, take-suc, take_at, drop-append-add, length-take-le}
 use Rattle.descriptor.specs.Table.{zero_row}
 use Rattle.descriptor.specs.declared.answer.Row.{Row}
 use Rattle.layout.specs.Numbers.{row_numbers, rows_numbers}
+
+-- seven stores in a row
+pub seven-stored : (l : List ℕ) (i a b c d e f g : ℕ) → i + 7 ≤ length l
+    → set (set (set (set (set (set (set l i a) (i + 1) b) (i + 2) c) (i + 3) d) (i + 4) e) (i + 5) f) (i + 6) g
+    ≡ take i l ++ (a ∷ b ∷ c ∷ d ∷ e ∷ f ∷ g ∷ []) ++ drop (i + 7) l
+seven-stored l i a b c d e f g h =
+    let one : i + 1 ≡ suc i = omega arith in
+    let two : i + 2 ≡ suc (suc i) = omega arith in
+    let three : i + 3 ≡ suc (suc (suc i)) = omega arith in
+    let four : i + 4 ≡ suc (suc (suc (suc i))) = omega arith in
+    let five : i + 5 ≡ suc (suc (suc (suc (suc i)))) = omega arith in
+    let six : i + 6 ≡ suc (suc (suc (suc (suc (suc i))))) = omega arith in
+    rw (one, two, three, four, five, six) (sets-eq (a ∷ b ∷ c ∷ d ∷ e ∷ f ∷ g ∷ []) l i h)
 
 pub numbers-length : (rs : List Row) → length (rows_numbers rs) ≡ length rs * 7
 unfolding rows_numbers

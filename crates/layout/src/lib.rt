@@ -37,15 +37,13 @@ fn put_row(row: Row, at: usize, to: &mut [u16; 1792])
     requires { at + 7 ≤ 1792 }
     ensures { to.new ≡ take at to.old ++ row_numbers row ++ drop (at + 7) to.old }
 {
-    to[at..at + 7].copy_from_slice(&[
-        row.code,
-        row.start,
-        row.size,
-        row.depth,
-        row.count,
-        row.name_place,
-        row.name_length,
-    ]);
+    to[at] = row.code;
+    to[at + 1] = row.start;
+    to[at + 2] = row.size;
+    to[at + 3] = row.depth;
+    to[at + 4] = row.count;
+    to[at + 5] = row.name_place;
+    to[at + 6] = row.name_length;
 }
 
 // The first n rows, and zeros after them.
