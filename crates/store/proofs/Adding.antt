@@ -34,7 +34,7 @@ use Rattle.store.specs.Questions.{entry_of, absent, admitted, with_record, enter
 use Rattle.store.specs.inner.Identity.{told, DataOf}
 use Rattle.store.specs.inner.Entries.{Unseen, FirstWith, blanks_at}
 use Rattle.store.specs.inner.Opens.{Open}
-use Rattle.store.specs.inner.Adding.{Admitted}
+use Rattle.store.specs.inner.Adding.{Admitted, AdmittedEntry}
 use Rattle.store.specs.declared.open.Book.{Book as Opened}
 use Rattle.store.proofs.Seeking.{entry-there, entry-none}
 use Rattle.store.proofs.Identified.{descriptor-denied, data-denied}
@@ -178,14 +178,16 @@ module _ (s d x : List ℕ) where
           add-narrow over = enters ∙ rw (missing, one_free, lt-leb (stop_of new) (length s) over) refl
 
           -- the record is written
-          pub add_done : b.end + (length d + length x) ≤ length s → id < 2 ^ 32 → Admitted s d x n new
+          pub add_done : b.end + (length d + length x) ≤ length s → Admitted s d x n new
           unfolding entered admitted absent
-          add_done room small = record {
+          add_done room = record {
             fits = record {
               room = room;
               entry = omega (arith, asked-count s b o, o.capacity, (asked-read s b o).capacity, (asked-read s b o).past);
               short = (asked-read s b o).short;
-              identifier = small;
             };
             is = enters ∙ rw (missing, one_free, le-leb (stop_of new) (length s) room, sym o.count) refl;
           }
+
+          pub add_entry : b.end + (length d + length x) ≤ length s → id < 2 ^ 32 → AdmittedEntry s d x n new
+          add_entry room small = record { admitted = add_done room; entry = record { fits = (add_done room).fits; identifier = small } }

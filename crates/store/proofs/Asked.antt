@@ -18,7 +18,7 @@ use Rattle.descriptor.proofs.Outcomes.{holds_read, refuses-so}
 use Rattle.canonical.proofs.Lists.{bytes_of}
 use Rattle.access.specs.Path.{no_part}
 use Rattle.store.specs.Book.{Blank, body_size}
-use Rattle.store.specs.Layout.{entry_place}
+use Rattle.store.specs.Layout.{book_limit, entry_place}
 use Rattle.store.specs.Check.{blank_at, opened, book_check}
 use Rattle.store.specs.Questions.{entry_of, body_part, found, identifiers, listed}
 use Rattle.store.specs.inner.Entries.{entry_in, name_at, Unseen, FirstWith, blanks_at}
@@ -84,6 +84,10 @@ module _ (s : List ℕ) (b : Opened) (o : Open s b) where
 
   pub asked-read : Read s b.end o.book
   asked-read = holds_read o.is (opened-read s)
+
+  -- its entries lie in no more bytes than a book has
+  pub entries-short : length b.entries.bytes.now ≤ book_limit
+  entries-short = rw (sym o.bytes) at asked-read.short
 
   -- how many records there are
   pub asked-count : n ≡ be s 2 2

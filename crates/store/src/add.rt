@@ -5,7 +5,7 @@ ghost use Rattle.store.specs.Questions.{with_record, added};
 ghost use Rattle.store.specs.inner.Entries.{entry_spelled};
 ghost use Rattle.store.specs.inner.Blanks.{blank_of};
 ghost use Rattle.store.specs.inner.Marks.{Marked};
-ghost use Rattle.store.specs.inner.Adding.{Fits, Entered, Admits};
+ghost use Rattle.store.specs.inner.Adding.{FitsEntry, Entered, Admits};
 
 use super::blank::Blank;
 use super::entry::{Entries, Entry, entry_place};
@@ -39,7 +39,7 @@ fn write_entry(s: &mut [u8], p: usize, e: Entry)
 
 // Writes the record after the last body, its entry after the n in use, and the count.
 fn write_record(s: &mut [u8], n: usize, r: Blank)
-    requires { Fits s.old n (blank_of r) }
+    requires { FitsEntry s.old n (blank_of r) }
     ensures { s.new ≡ with_record s.old n (blank_of r.entry) }
 {
     write_body(s, r.start, r.descriptor, r.flattened);

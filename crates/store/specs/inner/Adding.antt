@@ -20,6 +20,10 @@ pub record Fits (s : List ℕ) (n : ℕ) (r : Blank) : Type 0 where
   pub room : stop_of r ≤ length s
   pub entry : entry_place n + 16 ≤ r.start
   pub short : length s ≤ book_limit
+
+-- and its identifier the entry's 32 bits
+pub record FitsEntry (s : List ℕ) (n : ℕ) (r : Blank) : Type 0 where
+  pub fits : Fits s n r
   pub identifier : r.identifier < 2 ^ 32
 
 -- the record of d and x goes into the book so
@@ -27,7 +31,12 @@ pub record Admitted (s d x : List ℕ) (n : ℕ) (r : Blank) : Type 0 where
   pub fits : Fits s n r
   pub is : added s d x ≡ record { answer = accepted 0; out = with_record s n r }
 
+-- under an identifier that fits
+pub record AdmittedEntry (s d x : List ℕ) (n : ℕ) (r : Blank) : Type 0 where
+  pub admitted : Admitted s d x n r
+  pub entry : FitsEntry s n r
+
 -- it does, or is refused
 abbrev pub Admits : List ℕ → List ℕ → List ℕ → Result (ℕ × Lent) Answer → Type 0
-Admits s d x (Ok r) = Admitted s d x r.0 (blank_of r.1)
+Admits s d x (Ok r) = AdmittedEntry s d x r.0 (blank_of r.1)
 Admits s d x (Err a) = added s d x ≡ unwritten s a.number a.input a.place

@@ -2,7 +2,7 @@
 use native.Mathlib.Omega.{arith}
 use Rattle.std.proofs.lemmas.Result.{err_from_is_err_and}
 use Rattle.store.proofs.Asked.{asked-place, asked-read}
-use Rattle.store.proofs.Adding.{add-lost, add-own, add-short, add-taken, add-full, add-narrow, add_done}
+use Rattle.store.proofs.Adding.{add-lost, add-own, add-short, add-taken, add-full, add-narrow, add_entry}
 use Rattle.store.proofs.add.admit.Goals as goal
 
 pub of-requires : goal.of-requires
@@ -52,5 +52,5 @@ pub returns : goal.returns
 returns c =
     let book = c.in-Ok.ensures.book in
     rw c.in_ok-n.ensures.0
-    (add_done c.args.s.now c.args.d.now c.args.x.now _ book _ c.in_ok-identifier.ensures (rw book.bytes at c.in_ok-n.ensures.1)
+    (add_entry c.args.s.now c.args.d.now c.args.x.now _ book _ c.in_ok-identifier.ensures (rw book.bytes at c.in_ok-n.ensures.1)
     (omega (arith, c.in_ok-n.ensures.0)) c.if-s-book.false (omega arith))
