@@ -189,5 +189,6 @@ module _ (s d x : List ℕ) where
             is = enters ∙ rw (missing, one_free, le-leb (stop_of new) (length s) room, sym o.count) refl;
           }
 
+          -- under an identifier of 32 bits
           pub add_entry : b.end + (length d + length x) ≤ length s → id < 2 ^ 32 → AdmittedEntry s d x n new
-          add_entry room small = record { admitted = add_done room; entry = record { fits = (add_done room).fits; identifier = small } }
+          add_entry room small = record { admitted = add_done room; identifier = small }

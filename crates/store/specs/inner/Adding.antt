@@ -21,7 +21,7 @@ pub record Fits (s : List ℕ) (n : ℕ) (r : Blank) : Type 0 where
   pub entry : entry_place n + 16 ≤ r.start
   pub short : length s ≤ book_limit
 
--- and its identifier the entry's 32 bits
+-- and its identifier has the 32 bits that the entry gives it
 pub record FitsEntry (s : List ℕ) (n : ℕ) (r : Blank) : Type 0 where
   pub fits : Fits s n r
   pub identifier : r.identifier < 2 ^ 32
@@ -31,10 +31,10 @@ pub record Admitted (s d x : List ℕ) (n : ℕ) (r : Blank) : Type 0 where
   pub fits : Fits s n r
   pub is : added s d x ≡ record { answer = accepted 0; out = with_record s n r }
 
--- under an identifier that fits
+-- under an identifier of 32 bits
 pub record AdmittedEntry (s d x : List ℕ) (n : ℕ) (r : Blank) : Type 0 where
   pub admitted : Admitted s d x n r
-  pub entry : FitsEntry s n r
+  pub identifier : r.identifier < 2 ^ 32
 
 -- it does, or is refused
 abbrev pub Admits : List ℕ → List ℕ → List ℕ → Result (ℕ × Lent) Answer → Type 0
